@@ -2,7 +2,7 @@
 ghost use Rattle.std.specs.Prelude.{◌≡◌, [], Some, IfOk};
 ghost use Rattle.rk_devices.specs.Outputs.{put_out, payload_of};
 
-use rk_names::Payload;
+use rk_names::{Payload, PayloadView};
 use std::alloc::{AllocError, Global};
 use std::marker::Model;
 use thiserror::Error;
@@ -21,6 +21,8 @@ pub enum OutputFault {
 /// The output of a piped handler so far: its bytes, at most 32,767, or that there were more. Its room is made at first, so no byte that comes needs memory.
 #[derive(Drop)]
 pub struct Output {
+    /// Where memory comes from.
+    alloc: Global,
     /// What was read so far, at most 32,767 bytes; it no longer counts once there were more.
     bytes: Vec<u8>,
     /// Whether there were more bytes than a payload has.
@@ -43,7 +45,11 @@ impl Output {
         ensures { IfOk result (λ o. o ≡ Some []) }
     {
         let bytes = Vec::with_capacity(alloc, Payload::MAX_LEN)?;
-        Ok(Output { bytes, over: false })
+        Ok(Output {
+            alloc,
+            bytes,
+            over: false,
+        })
     }
 
     /// Takes what was read next. It takes no memory.
@@ -63,17 +69,18 @@ impl Output {
         }
     }
 
-    /// The payload that it is. What it does not need of the room is given back; if that takes memory and there is none, the payload keeps the room.
+    /// The payload that it is. Its copies share its bytes, and the room is given back; where there is no memory for that, the payload keeps the room.
     pub fn into_payload(self) -> Result<Payload, OutputFault>
         ensures { result ≡ payload_of self }
     {
         if self.over {
             return Err(OutputFault::TooLong);
         }
-        let mut bytes = self.bytes;
-        bytes.shrink_to_fit();
-        match Payload::new(bytes) {
-            Ok(payload) => Ok(payload),
+        match PayloadView::new(&self.bytes) {
+            Ok(payload) => match payload.to_owned(self.alloc) {
+                Ok(payload) => Ok(payload),
+                Err(AllocError) => Ok(Payload::from_checked(self.bytes)),
+            },
             Err(_) => Err(OutputFault::Empty),
         }
     }

@@ -1,5 +1,5 @@
 //! What a key holds.
-ghost use Rattle.std.specs.Prelude.{◌≡◌, MatchResult, None, Some, IfOk};
+ghost use Rattle.std.specs.Prelude.{◌≡◌, MatchResult, None, Some, IfOk, IfSome};
 ghost use Rattle.rk_names.specs.Rules.{payload_fault};
 ghost use Rattle.rk_names.specs.Shares.{payload_bytes};
 
@@ -101,6 +101,21 @@ impl Payload {
     {
         PayloadView {
             bytes: self.bytes.as_slice(),
+        }
+    }
+
+    /// A copy that shares the bytes, and takes no memory. `None` for bytes that were moved here.
+    pub fn again(&self) -> Option<Payload>
+        ensures { IfSome result (λ copy. copy ≡ self.now) }
+    {
+        match &self.bytes {
+            PayloadBytes::Moved(_) => None,
+            PayloadBytes::Shared(bytes) => match bytes.clone() {
+                Ok(bytes) => Some(Payload {
+                    bytes: PayloadBytes::Shared(bytes),
+                }),
+                Err(_) => None,
+            },
         }
     }
 

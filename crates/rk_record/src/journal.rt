@@ -4,6 +4,7 @@ ghost use Rattle.std.specs.Prelude.{◌≡◌, ◌↔◌, ◌+◌, ◌-◌, ◌<
 use crate::fault::HallFault;
 use crate::recorded::Recorded;
 use crate::room::Room;
+use rk_names::Payload;
 use std::alloc::{AllocError, Global};
 use std::marker::Model;
 use std::mem;
@@ -138,8 +139,23 @@ impl Journal {
         self.ends = ends;
     }
 
+    /// A copy of the payload of an end: it shares the bytes, or has them in the room that is kept for the longest payload. It takes no memory.
+    pub(crate) fn copy_of_end(&mut self, payload: &Payload) -> Payload
+        requires { 1 ≤ self.old.ends }
+        ensures copy { result ≡ payload.now }
+        ensures journal { self.new ≡ record self.old { ends = self.old.ends - 1 } }
+    {
+        match payload.again() {
+            Some(copy) => {
+                self.ends -= 1;
+                copy
+            }
+            None => self.take_room().fill(payload),
+        }
+    }
+
     /// Room for a payload, of that which is kept.
-    pub(crate) fn take_room(&mut self) -> Room
+    fn take_room(&mut self) -> Room
         requires { 1 ≤ self.old.ends }
         ensures { self.new ≡ record self.old { ends = self.old.ends - 1 } }
     {

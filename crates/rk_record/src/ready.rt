@@ -45,7 +45,7 @@ impl<'a> Ready<'a> {
         }
     }
 
-    /// An event that is owed, so that it is no ask. The payload of an end is copied into room that was kept for it. It takes no memory.
+    /// An event that is owed, so that it is no ask. It takes no memory: for a copy of the payload of an end room was kept.
     pub(crate) fn owed(event: EventView<'a>, journal: &mut Journal) -> Ready<'a>
         requires ask { IsNoAsk event }
         requires room { rooms_taken event ≤ journal.old.ends }
@@ -53,7 +53,7 @@ impl<'a> Ready<'a> {
         ensures journal { journal.new ≡ record journal.old { ends = journal.old.ends - rooms_taken event.entry } }
     {
         let copy = match &event {
-            EventView::Ended(_, _, Some(payload)) => Some(journal.take_room().fill(payload)),
+            EventView::Ended(_, _, Some(payload)) => Some(journal.copy_of_end(payload)),
             _ => None,
         };
         Ready::of_no_ask(event, copy)
