@@ -495,10 +495,10 @@ def slower(latency, other):
 
 
 def drive_made(server, runs):
-    """Keys that are made, and starts of as many programs at a time. Both are begun from the environment of a service."""
+    """Keys that are made, and starts of as many programs at a time: 400 in each round. Both are begun from the environment of a service."""
     table("connections", "keys/s", "starts/s C", "ratio", "latency")
     loads_of = {count: [peer("load"), server.path, count, "400", "made"] for count in ("1", "8")}
-    by_line = rounds(loads_of | {C: ["env", "-i", *ENVIRONMENT, peer("spawn")]}, runs)
+    by_line = rounds(loads_of | {C: ["env", "-i", *ENVIRONMENT, peer("spawn"), "--rounds", "1"]}, runs)
     told = {who: rates for by in by_line.values() for who, rates in by.items() if who != C}
     for count, keys in told.items():
         starts = next(by[C] for of, by in by_line.items() if of.startswith(f"/bin/cat, {count} at a time"))

@@ -80,7 +80,7 @@ static void bench(unsigned halls, unsigned threads, unsigned calls, bool adds)
         callers[i] = (struct caller){.hall = &hall[i % halls], .calls = calls / threads, .adds = adds, .all = &all};
         enter(&callers[i], i);
     }
-    double took = (double)best_of_rounds(threads, call_on, callers, sizeof *callers), made = (double)(calls / threads) * threads;
+    double took = (double)best_of(ROUNDS, threads, call_on, callers, sizeof *callers), made = (double)(calls / threads) * threads;
     printf("%s, %u %s, %u %s: %.0f ns a call, %.0f calls/s\n", adds ? "hits and adds" : "hits", halls, halls == 1 ? "hall" : "halls", threads,
         threads == 1 ? "thread" : "threads", took * threads / made, made / took * 1e9);
     for (unsigned no = 0; no < halls; no++)

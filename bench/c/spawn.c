@@ -1,9 +1,9 @@
 /* How fast programs are started: posix_spawn, a callout of 1 KiB written to the program, its output read to the end, and its end waited for.
  *
- * usage: spawn [--resident MIB] [--starts STARTS] [--only PROGRAM]
+ * usage: spawn [--resident MIB] [--starts STARTS] [--rounds ROUNDS] [--only PROGRAM]
  *
- * Once with /bin/cat and once with a program that does nothing, 1 and 8 at a time; with so many MiB that were written to before. The best of five
- * rounds is printed, each of so many starts. Or only one of the two programs is started, 1 at a time. */
+ * Once with /bin/cat and once with a program that does nothing, 1 and 8 at a time; with so many MiB that were written to before. The best of so many
+ * rounds is printed (5), each of so many starts (400). Or only one of the two programs is started, 1 at a time. */
 #include "threads.h"
 
 #include <errno.h>
@@ -15,7 +15,7 @@
 
 enum { CALLOUT = 1024, AT_ONCE = 8 };
 
-static const char usage[] = "usage: spawn [--resident MIB] [--starts STARTS] [--only PROGRAM]\n";
+static const char usage[] = "usage: spawn [--resident MIB] [--starts STARTS] [--rounds ROUNDS] [--only PROGRAM]\n";
 
 extern char **environ;
 
@@ -66,27 +66,28 @@ static void *start_all(void *argument)
     return NULL;
 }
 
-static void bench(const char *program, size_t wanted, unsigned at_once, unsigned starts, unsigned resident)
+static void bench(const char *program, size_t wanted, unsigned at_once, unsigned starts, unsigned rounds, unsigned resident)
 {
     struct starter starters[AT_ONCE];
     for (unsigned i = 0; i < at_once; i++)
         starters[i] = (struct starter){program, starts / at_once, wanted};
-    double took = (double)best_of_rounds(at_once, start_all, starters, sizeof *starters), made = (double)(starts / at_once) * at_once;
+    double took = (double)best_of(rounds, at_once, start_all, starters, sizeof *starters), made = (double)(starts / at_once) * at_once;
     printf("%s, %u at a time, %u MiB resident: %.0f starts/s, %.0f us each\n", program, at_once, resident, made / took * 1e9,
         took / 1e3 * at_once / made);
 }
 
 int main(int count, char **words)
 {
-    unsigned resident = 0, starts = 400;
+    unsigned resident = 0, starts = 400, rounds = ROUNDS;
     const char *only = NULL;
     for (int at = 1; at < count; at += 2) {
         if (strcmp(words[at], "--only") == 0 && words[at + 1]) {
             only = words[at + 1];
             continue;
         }
-        unsigned *option = strcmp(words[at], "--resident") == 0 ? &resident : strcmp(words[at], "--starts") == 0 ? &starts : NULL;
-        *(option ? option : &starts) = number_in(option ? words[at + 1] : NULL, option == &starts ? AT_ONCE : 0, usage);
+        unsigned *option = strcmp(words[at], "--resident") == 0 ? &resident : strcmp(words[at], "--rounds") == 0 ? &rounds
+            : strcmp(words[at], "--starts") == 0 ? &starts : NULL;
+        *(option ? option : &starts) = number_in(option ? words[at + 1] : NULL, option == &starts ? AT_ONCE : option == &rounds, usage);
     }
     signal(SIGPIPE, SIG_IGN);
     char *held = calloc((size_t)resident << 20 | 1, 1);
@@ -94,9 +95,9 @@ int main(int count, char **words)
     memset(held, 1, (size_t)resident << 20);
     for (unsigned at_once = 1; at_once <= (only ? 1 : AT_ONCE); at_once *= AT_ONCE) {
         if (!only || strcmp(only, "/bin/true") == 0)
-            bench("/bin/true", 0, at_once, starts, resident);
+            bench("/bin/true", 0, at_once, starts, rounds, resident);
         if (!only || strcmp(only, "/bin/cat") == 0)
-            bench("/bin/cat", CALLOUT, at_once, starts, resident);
+            bench("/bin/cat", CALLOUT, at_once, starts, rounds, resident);
     }
     /* so that the memory has to be there until now */
     int lost = held[(size_t)resident << 19] != (resident ? 1 : 0);

@@ -32,7 +32,7 @@ static inline int by_size(const void *a, const void *b)
     return (x > y) - (x < y);
 }
 
-/* So many rounds are run, and the best one counts: other work on the machine only makes it slower. */
+/* So many rounds are run where no number is given, and the best one counts: other work on the machine only makes it slower. */
 enum { ROUNDS = 5 };
 
 /* Runs the function in so many threads, each with its element of an array, and waits for all: the nanoseconds that it took. */
@@ -49,10 +49,10 @@ static inline uint64_t run_threads(unsigned count, void *(*function)(void *), vo
 }
 
 /* The same so many times: the nanoseconds of the best one. */
-static inline uint64_t best_of_rounds(unsigned count, void *(*function)(void *), void *first, size_t size)
+static inline uint64_t best_of(unsigned rounds, unsigned count, void *(*function)(void *), void *first, size_t size)
 {
     uint64_t best = UINT64_MAX;
-    for (int round = 0; round < ROUNDS; round++) {
+    for (unsigned round = 0; round < rounds; round++) {
         uint64_t took = run_threads(count, function, first, size);
         best = took < best ? took : best;
     }
