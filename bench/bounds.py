@@ -5,11 +5,11 @@ says why, where it raises the bound.
 """
 
 MOST = {
-    "found REQUEST": 2_060,
-    "found, a description of 60 bytes": 2_780,
-    "found, with a callout": 2_170,
-    "missing REQUEST": 1_770,
+    "found REQUEST": 1_960,
+    "found, a description of 60 bytes": 2_700,
+    "found, with a callout": 2_100,
+    "missing REQUEST": 1_710,
     "READ of one byte": 1_740,
     "DESCRIBE": 1_990,
-    "ADD displacing": 4_580,
+    "ADD displacing": 4_520,
 }
