@@ -8,9 +8,9 @@ use Rattle.rk_machine.specs.declared.event.Answer.TheVariants as answer
 use Rattle.rk_record.specs.Copies.{Told}
 use Rattle.rk_record.specs.declared.told.ToldOf.TheVariants as told
 
--- how many bytes of a name of so many do not lie in its step: none of at most 31, and all of more
+-- how many bytes of a name of so many do not lie in its step: none of at most 30, and all of more
 abbrev pub outside : ℕ → ℕ
-outside len = if nat_le len 31 then 0 else len
+outside len = if nat_le len 30 then 0 else len
 
 -- the bytes that an ask has outside of its step: of a long description or callout, and of its payload
 abbrev pub bytes_of : Ask → ℕ

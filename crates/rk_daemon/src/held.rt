@@ -9,7 +9,7 @@ use rk_message::{AskView, Reply};
 use std::sync::atomic::{AtomicU64, Ordering};
 
 /// A description or a callout of at most so many bytes stands in its value (rk_names), and so in its step.
-const IN_STEP: usize = 31;
+const IN_STEP: usize = 30;
 
 /// How many bytes of asks and replies each hall's record has taken since its volume was last handed out, about, and how many volumes were full. Threads
 /// count here without a lock.

@@ -1,5 +1,5 @@
 //! Four halls that threads share.
-ghost use Rattle.std.specs.Prelude.{◌≡◌, ◌≢◌, ◌↔◌, ◌+◌, ◌<◌, ◌≤◌, ℕ, true, is_some, IfOk, IfErr, OnErr, Ok, Err, Some, None, IfSome, MatchOption};
+ghost use Rattle.std.specs.Prelude.{◌≡◌, ◌≢◌, ◌↔◌, ◌+◌, ◌<◌, ◌≤◌, [], ℕ, true, is_some, IfOk, IfErr, OnErr, Ok, Err, Some, None, IfSome, MatchOption};
 ghost use Rattle.std.specs.Prelude.{if◌then◌else◌};
 ghost use Rattle.rk_machine.specs.Owing.{is_followed};
 ghost use Rattle.rk_record.specs.Copies.{told_of, started};
@@ -22,10 +22,13 @@ use crate::volume::Volume;
 use rk_machine::{Answer, EventOf, EventView, How, Ran};
 use rk_message::AskView;
 use rk_names::{Description, Errno, Moment, Payload, SessionId, TypeName};
-use rk_record::{HallFault, HallNo, MAX_STEPS, ReceiptView};
+use rk_record::{HallFault, HallNo, MAX_STEPS, ReceiptView, Recorded};
 use std::alloc::{AllocError, Global};
 use std::marker::PhantomData;
 use std::sync::Wait;
+
+/// So many steps are dropped at a time.
+const BLOCK: usize = 256;
 
 /// Four halls that threads share, each under a lock of its own. Every call is one turn of one hall under its lock, or none.
 #[derive(Drop)]
@@ -399,7 +402,17 @@ impl<N: Names> Halls<N> {
     pub fn take_back<R: Wait>(&self, rt: &R, volume: Volume<N>) {
         let hall = volume.hall();
         let mut steps = volume.into_steps();
-        steps.clear();
+        drop_from_the_last(&mut steps);
         by_hall!(hall, HallNo, of_hall!(self.keep_memory(rt, steps)));
     }
+}
+
+/// Drops all steps, block by block. The last blocks go first, since of a volume only what was recorded last still lies in the processor's cache.
+fn drop_from_the_last(steps: &mut Vec<Recorded>)
+    ensures { steps.new.items ≡ [] }
+{
+    for blocks in (1..=steps.len() / BLOCK).rev() {
+        steps.truncate(blocks * BLOCK);
+    }
+    steps.clear();
 }

@@ -10,7 +10,7 @@ use std::alloc::{AllocError, Global};
 use std::marker::Model;
 
 /// What the requester passes to the handler: 0 to 4,095 bytes of UTF-8 without a zero byte
-/// (request_key(2), `callout_info`). At most 31 stand in the value, and the copies of more share them.
+/// (request_key(2), `callout_info`). At most 30 stand in the value, and the copies of more share them.
 #[derive(Debug, Drop)]
 pub struct Callout {
     /// The text, 0 to 4,095 bytes.
@@ -145,7 +145,7 @@ impl<'a> CalloutView<'a> {
         Callout::from_checked(alloc, self.bytes)
     }
 
-    /// What a copy takes of memory: nothing for at most 31 bytes. The only refusal is out of memory.
+    /// What a copy takes of memory: nothing for at most 30 bytes. The only refusal is out of memory.
     #[inline(always)]
     pub fn long(&self, alloc: Global) -> Result<Option<LongBytes>, AllocError>
         ensures { IfOk result (λ long. IsLongOf long self.now) }

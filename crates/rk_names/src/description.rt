@@ -10,7 +10,7 @@ use std::alloc::{AllocError, Global};
 use std::marker::Model;
 
 /// What a key is called among those of its type: 1 to 4,095 bytes of UTF-8 without a zero byte
-/// (request_key(2), "DESCRIPTION"). At most 31 stand in the value, and the copies of more share them.
+/// (request_key(2), "DESCRIPTION"). At most 30 stand in the value, and the copies of more share them.
 #[derive(Debug, Drop)]
 pub struct Description {
     /// The text, 1 to 4,095 bytes.
@@ -151,7 +151,7 @@ impl<'a> DescriptionView<'a> {
         Description::from_checked(alloc, self.bytes)
     }
 
-    /// What a copy takes of memory: nothing for at most 31 bytes. The only refusal is out of memory.
+    /// What a copy takes of memory: nothing for at most 30 bytes. The only refusal is out of memory.
     #[inline(always)]
     pub fn long(&self, alloc: Global) -> Result<Option<LongBytes>, AllocError>
         ensures { IfOk result (λ long. IsLongOf long self.now) }

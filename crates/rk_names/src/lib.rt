@@ -11,16 +11,16 @@
 //! A maker tests its rule and refuses by name, in one order: `Empty`, `TooLong`, `Dot`, `Byte`, and out of memory last. So `TypeName::new(b"user")`
 //! is made, `TypeName::new(b".x")` is refused with `Dot`. If bytes are still borrowed, as in a message that is being read, a [`TypeView`] keeps
 //! the same rule and takes no memory, and `to_owned` copies it without another look. [`DescriptionView`], [`CalloutView`] and [`PayloadView`] do
-//! likewise. A type lies in its value and takes no memory, and so does a description or a callout of at most 31 bytes. The copies of a longer
+//! likewise. A type lies in its value and takes no memory, and so does a description or a callout of at most 30 bytes. The copies of a longer
 //! one share its bytes, and so do those of a payload that `to_owned` has made. [`Payload::new`] moves the bytes that it is handed and takes no memory
 //! either.
 //!
 //! # How it is built
 //!
 //! A file for each name (`type_name`, `description`, `callout`) and for `payload`; `text` has the rule that all names share, `context` who acts, `numbers`
-//! what is a number, `errors` the refusals. `name_bytes` keeps the bytes of a description or a callout, `shared_bytes` those that copies share, and
-//! `equality` tells whether two names have the same bytes. The rules stand once, in `specs/Rules.antt`, as functions from bytes to the first fault; a
-//! maker, its test on borrowed bytes and its reader all cite them.
+//! what is a number, `errors` the refusals. `name_bytes` keeps the bytes of a description or a callout, `few_bytes` those that stand in the value,
+//! `shared_bytes` those that copies share, and `equality` tells whether two names have the same bytes. The rules stand once, in `specs/Rules.antt`, as
+//! functions from bytes to the first fault; a maker, its test on borrowed bytes and its reader all cite them.
 #![tactic(auto)]
 
 mod callout;
@@ -28,6 +28,7 @@ mod context;
 mod description;
 mod equality;
 mod errors;
+mod few_bytes;
 mod name_bytes;
 mod numbers;
 mod payload;

@@ -2,33 +2,41 @@
 ghost use Rattle.std.specs.Prelude.{◌≡◌, IfOk};
 ghost use Rattle.rk_names.specs.Longs.{IsLongOf};
 
+use crate::few_bytes::FewBytes;
 use crate::shared_bytes::SharedBytes;
-use arrayvec::ArrayVec;
 use std::alloc::{AllocError, Global};
 use std::marker::Model;
 
-/// How many bytes stand in the value.
-const INLINE: usize = 31;
+/// How many bytes stand in the value: with their number and the tag they take four words.
+const INLINE: usize = 30;
 
-/// The bytes of a description or a callout. At most 31 stand in the value, so that most copies take no memory; the copies of more share them.
+/// The bytes of a description or a callout. At most 30 stand in the value, so that most copies take no memory; the copies of more share them.
 #[derive(Debug, Drop)]
 pub(crate) struct NameBytes {
-    /// At most 31 bytes; none if there are more.
-    few: ArrayVec<u8, INLINE>,
-    /// All bytes, if there are more.
-    many: Option<SharedBytes>,
+    /// The bytes, wherever they lie.
+    bytes: Held,
+}
+
+/// Bytes in the value, or shared.
+#[derive(Debug, Drop)]
+enum Held {
+    /// At most 30.
+    Few(FewBytes<INLINE>),
+    /// More.
+    Many(SharedBytes),
 }
 
 impl Model for NameBytes {
-    ghost use Rattle.std.specs.Prelude.{List, ℕ, unwrap_or};
+    ghost use Rattle.std.specs.Prelude.{List, ℕ};
+    ghost use Rattle.rk_names.specs.Longs.{held_bytes};
 
     ghost Value = { List ℕ };
 
-    ghost view = { λ b. unwrap_or b.many b.few.items };
+    ghost view = { λ b. held_bytes b.bytes };
 }
 
 impl NameBytes {
-    /// A copy of the bytes. An `Err` is out of memory, which comes for more than 31 bytes alone.
+    /// A copy of the bytes. An `Err` is out of memory, which comes for more than 30 bytes alone.
     #[inline(always)]
     pub(crate) fn of(alloc: Global, bytes: &[u8]) -> Result<NameBytes, AllocError>
         ensures { IfOk result (λ copy. copy ≡ bytes.now) }
@@ -43,15 +51,10 @@ impl NameBytes {
         requires { IsLongOf long bytes.now }
         ensures { result ≡ bytes.now }
     {
-        let mut few = ArrayVec::new();
-        match long {
-            Some(long) => NameBytes {
-                few,
-                many: Some(long.bytes),
-            },
-            None => match few.try_extend_from_slice(bytes) {
-                Ok(()) => NameBytes { few, many: None },
-                Err(_) => unreachable!(),
+        NameBytes {
+            bytes: match long {
+                Some(long) => Held::Many(long.bytes),
+                None => Held::Few(FewBytes::of(bytes)),
             },
         }
     }
@@ -60,9 +63,9 @@ impl NameBytes {
     pub(crate) fn as_slice(&self) -> &[u8]
         ensures { result.now ≡ self.now }
     {
-        match &self.many {
-            Some(many) => many.as_bytes(),
-            None => &self.few,
+        match &self.bytes {
+            Held::Few(few) => few.as_slice(),
+            Held::Many(many) => many.as_bytes(),
         }
     }
 }
@@ -72,8 +75,10 @@ impl Clone for NameBytes {
 
     fn clone(&self) -> Result<NameBytes, AllocError> {
         Ok(NameBytes {
-            few: self.few.clone()?,
-            many: self.many.clone()?,
+            bytes: match &self.bytes {
+                Held::Few(few) => Held::Few(few.clone()?),
+                Held::Many(many) => Held::Many(many.clone()?),
+            },
         })
     }
 }
@@ -81,7 +86,7 @@ impl Clone for NameBytes {
 /// A copy of bytes that do not stand in the value of a description or a callout, made before they are wanted there.
 #[derive(Debug, Drop)]
 pub struct LongBytes {
-    /// More than 31 bytes.
+    /// More than 30 bytes.
     bytes: SharedBytes,
 }
 
@@ -94,7 +99,7 @@ impl Model for LongBytes {
 }
 
 impl LongBytes {
-    /// What a copy of the bytes takes of memory: nothing for at most 31. An `Err` is out of memory.
+    /// What a copy of the bytes takes of memory: nothing for at most 30. An `Err` is out of memory.
     #[inline(always)]
     pub(crate) fn of(alloc: Global, bytes: &[u8]) -> Result<Option<LongBytes>, AllocError>
         ensures { IfOk result (λ long. IsLongOf long bytes.now) }

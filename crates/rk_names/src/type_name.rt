@@ -3,8 +3,8 @@ ghost use Rattle.std.specs.Prelude.{◌≡◌, IfOk, IfErr, None, Some, MatchRes
 ghost use Rattle.rk_names.specs.Rules.{type_fault};
 
 use crate::errors::NameFault;
+use crate::few_bytes::FewBytes;
 use crate::text::text_fault;
-use arrayvec::ArrayVec;
 use std::alloc::AllocError;
 use std::marker::Model;
 
@@ -13,7 +13,7 @@ use std::marker::Model;
 #[derive(Debug, Drop)]
 pub struct TypeName {
     /// The text, 1 to 31 bytes.
-    bytes: ArrayVec<u8, 31>,
+    bytes: FewBytes<31>,
 }
 
 impl Model for TypeName {
@@ -22,9 +22,9 @@ impl Model for TypeName {
 
     ghost Value = { List ℕ };
 
-    ghost view = { λ n. n.bytes.items };
+    ghost view = { λ n. n.bytes };
 
-    ghost invariant = { λ n. type_fault n.bytes.items ≡ None };
+    ghost invariant = { λ n. type_fault n.bytes ≡ None };
 }
 
 impl TypeName {
@@ -63,10 +63,8 @@ impl TypeName {
         requires { type_fault bytes.now ≡ None }
         ensures { result ≡ bytes.now }
     {
-        let mut copy = ArrayVec::new();
-        match copy.try_extend_from_slice(bytes) {
-            Ok(()) => TypeName { bytes: copy },
-            Err(_) => unreachable!(),
+        TypeName {
+            bytes: FewBytes::of(bytes),
         }
     }
 
@@ -75,14 +73,16 @@ impl TypeName {
         ensures bytes { result.now ≡ self.now }
         ensures rule { type_fault self.now ≡ None }
     {
-        &self.bytes
+        self.bytes.as_slice()
     }
 
     /// The same, borrowed.
     pub fn view(&self) -> TypeView<'_>
         ensures { result ≡ self.now }
     {
-        TypeView { bytes: &self.bytes }
+        TypeView {
+            bytes: self.bytes.as_slice(),
+        }
     }
 }
 
