@@ -5,11 +5,11 @@ says why, where it raises the bound.
 """
 
 MOST = {
-    "found REQUEST": 1_960,
-    "found, a description of 60 bytes": 2_700,
-    "found, with a callout": 2_100,
-    "missing REQUEST": 1_710,
-    "READ of one byte": 1_740,
-    "DESCRIBE": 1_990,
-    "ADD displacing": 4_520,
+    "found REQUEST": 1_920,
+    "found, a description of 60 bytes": 2_660,
+    "found, with a callout": 2_060,
+    "missing REQUEST": 1_640,
+    "READ of one byte": 1_710,
+    "DESCRIBE": 1_970,
+    "ADD displacing": 4_450,
 }
