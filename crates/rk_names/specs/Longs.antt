@@ -1,4 +1,4 @@
--- The memory that a copy of a description or a callout takes.
+-- The bytes of a description or a callout, and the memory that a copy of them takes.
 use Rattle.std.specs.Prelude.{ℕ, ◌≡◌, ◌≤◌, List, length, Option, Some, None}
 use Rattle.rk_names.specs.declared.name_bytes.Held.{Held}
 use Rattle.rk_names.specs.declared.name_bytes.Held.TheVariants as held

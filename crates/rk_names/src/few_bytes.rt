@@ -4,8 +4,7 @@ ghost use Rattle.std.specs.Prelude.{◌≡◌, ◌≤◌, length, take};
 use std::alloc::AllocError;
 use std::marker::Model;
 
-/// At most `N` bytes, where `N` is at most 255. Their number takes one byte, so that many rows of a record lie in a processor's cache: `ArrayVec` takes
-/// eight for it.
+/// At most `N` bytes, where `N` is at most 255. Their number takes one byte, where `ArrayVec` has eight, so that the steps of a record are short.
 #[derive(Debug, Drop)]
 pub(crate) struct FewBytes<const N: usize> {
     /// How many they are.
