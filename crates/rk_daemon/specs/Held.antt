@@ -1,5 +1,6 @@
 -- How much halls' records hold.
 use Rattle.std.specs.Prelude.{ℕ, ◌+◌, ◌-◌, ◌^◌, length, min, nat_le, Some, None, if◌then◌else◌}
+use Rattle.rk_names.specs.Longs.{in_description, in_callout}
 use Rattle.rk_message.specs.Ask.{Ask}
 use Rattle.rk_message.specs.declared.ask.AskOf.TheVariants as ask
 use Rattle.rk_message.specs.declared.reply.Reply.TheVariants as reply
@@ -8,16 +9,16 @@ use Rattle.rk_machine.specs.declared.event.Answer.TheVariants as answer
 use Rattle.rk_record.specs.Copies.{Told}
 use Rattle.rk_record.specs.declared.told.ToldOf.TheVariants as told
 
--- how many bytes of a name of so many do not lie in its step: none of at most 30, and all of more
-abbrev pub outside : ℕ → ℕ
-outside len = if nat_le len 30 then 0 else len
+-- how many bytes of a name of so many do not lie in its step: none where they are few, and all of more
+abbrev pub outside : ℕ → ℕ → ℕ
+outside few len = if nat_le len few then 0 else len
 
 -- the bytes that an ask has outside of its step: of a long description or callout, and of its payload
 abbrev pub bytes_of : Ask → ℕ
-bytes_of (ask.Request typ description (Some callout) destination) = outside (length description) + outside (length callout)
-bytes_of (ask.Request typ description None destination) = outside (length description)
+bytes_of (ask.Request typ description (Some callout) destination) = outside in_description (length description) + outside in_callout (length callout)
+bytes_of (ask.Request typ description None destination) = outside in_description (length description)
 bytes_of (ask.Instantiate key payload ring) = length payload
-bytes_of (ask.Add typ description payload ring) = outside (length description) + length payload
+bytes_of (ask.Add typ description payload ring) = outside in_description (length description) + length payload
 bytes_of _ = 0
 
 -- those of what was handed in

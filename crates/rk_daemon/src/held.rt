@@ -6,10 +6,8 @@ use crate::by_hall::ByHall;
 use rk_hall::{HallNo, ReceiptView, ToldView};
 use rk_machine::Answer;
 use rk_message::{AskView, Reply};
+use rk_names::{Callout, Description};
 use std::sync::atomic::{AtomicU64, Ordering};
-
-/// A description or a callout of at most so many bytes stands in its value (rk_names), and so in its step.
-const IN_STEP: usize = 30;
 
 /// How many bytes of asks and replies each hall's record has taken since its volume was last handed out, about, and how many volumes were full. Threads
 /// count here without a lock.
@@ -77,11 +75,11 @@ pub fn taken_by(receipt: &ReceiptView<'_>) -> u64
     asked.saturating_add(answered) as u64
 }
 
-/// How many bytes of a name so long do not lie in its step: all or none.
-fn outside(len: usize) -> usize
-    ensures { result ≡ outside len }
+/// How many bytes of a name so long do not lie in its step, where at most `few` stand in its value: all or none.
+fn outside(few: usize, len: usize) -> usize
+    ensures { result ≡ outside few len }
 {
-    if len <= IN_STEP { 0 } else { len }
+    if len <= few { 0 } else { len }
 }
 
 /// How many bytes an ask has outside of its step: those of a long description or callout, and of its payload.
@@ -93,14 +91,21 @@ fn bytes_of(ask: &AskView<'_>) -> usize
             description,
             callout: Some(callout),
             ..
-        } => outside(description.as_bytes().len()) + outside(callout.as_bytes().len()),
-        AskView::Request { description, .. } => outside(description.as_bytes().len()),
+        } => {
+            outside(Description::IN_VALUE, description.as_bytes().len())
+                + outside(Callout::IN_VALUE, callout.as_bytes().len())
+        }
+        AskView::Request { description, .. } => {
+            outside(Description::IN_VALUE, description.as_bytes().len())
+        }
         AskView::Instantiate { payload, .. } => payload.as_bytes().len(),
         AskView::Add {
             description,
             payload,
             ..
-        } => outside(description.as_bytes().len()) + payload.as_bytes().len(),
+        } => {
+            outside(Description::IN_VALUE, description.as_bytes().len()) + payload.as_bytes().len()
+        }
         _ => 0,
     }
 }

@@ -397,7 +397,7 @@ impl<N: Names> Halls<N> {
         }
     }
 
-    /// Takes a volume back that is done with: its steps are dropped, and their memory is kept for those of the hall's next volume. So a step seldom touches
+    /// Takes a volume back that is done with: its steps are dropped, and their memory is kept for those of a volume to come. So a step seldom touches
     /// memory for the first time, which takes longer than the step while others wait for the hall. It may wait.
     pub fn take_back<R: Wait>(&self, rt: &R, volume: Volume<N>) {
         let hall = volume.hall();

@@ -261,7 +261,7 @@ impl<N: Names, const H: u64> Lock<N, H> {
         hold(&self.locked, rt).roll_full()
     }
 
-    /// Keeps the memory of these steps for the next volume. What was kept before is given back once other threads may have the hall.
+    /// Keeps the memory of these steps for those of a volume to come. What was kept before is given back once other threads may have the hall.
     pub(crate) fn keep_memory<R: Wait>(&self, rt: &R, steps: Vec<Recorded>) {
         let before = hold(&self.locked, rt).keep_memory(steps);
         drop(before);

@@ -381,7 +381,7 @@ impl<N: Names, const H: u64> Locked<N, H> {
         Ok(Some(self.roll()?))
     }
 
-    /// Keeps the memory of these steps for the next volume, and returns that which was kept before.
+    /// Keeps the memory of these steps for those of a volume to come, and returns that which was kept before.
     pub(crate) fn keep_memory(&mut self, steps: Vec<Recorded>) -> Vec<Recorded>
         ensures { self.new ≡ self.old }
     {

@@ -76,6 +76,7 @@ impl<'a> HashedName<'a> {
     }
 
     /// A copy of the description. The only refusal is out of memory.
+    #[inline(always)]
     pub fn owned_description(&self, alloc: Global) -> Result<Description, AllocError>
         ensures { IfOk result (λ d. d ≡ self.now.description) }
     {

@@ -1,6 +1,6 @@
 -- The memory that an ask takes.
 use Rattle.std.specs.Prelude.{ℕ, ◌≡◌, List, Option, Some, None}
-use Rattle.rk_names.specs.Longs.{IsLongOf}
+use Rattle.rk_names.specs.Longs.{in_description, in_callout, IsLongOf}
 use Rattle.rk_message.specs.Ask.{Ask}
 use Rattle.rk_message.specs.declared.ask.AskOf.TheVariants as ask
 
@@ -12,13 +12,13 @@ payload_of _ = None
 
 -- what the copy of a callout takes of memory, if there is one
 abbrev pub IsLongCallout : Option (List ℕ) → Option (List ℕ) → Type 0
-IsLongCallout long (Some callout) = IsLongOf long callout
+IsLongCallout long (Some callout) = IsLongOf in_callout long callout
 IsLongCallout long None = Unit {0}
 
 -- what the copies of an ask's description and of its callout take of memory
 abbrev pub AreLongOf : Ask → Option (List ℕ) → Option (List ℕ) → Type 0
-AreLongOf (ask.Request typ description callout destination) long long_callout = IsLongOf long description × IsLongCallout long_callout callout
-AreLongOf (ask.Add typ description payload ring) long long_callout = IsLongOf long description
+AreLongOf (ask.Request typ description callout destination) long long_callout = IsLongOf in_description long description × IsLongCallout long_callout callout
+AreLongOf (ask.Add typ description payload ring) long long_callout = IsLongOf in_description long description
 AreLongOf _ long long_callout = Unit {0}
 
 -- what was copied of an ask before its copy is made: of its description and of its callout what does not stand in the value, and its payload

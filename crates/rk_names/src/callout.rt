@@ -1,6 +1,6 @@
 //! The callout: what a handler gets to make its key from.
 ghost use Rattle.std.specs.Prelude.{◌≡◌, IfOk, IfErr, None, MatchResult, Some};
-ghost use Rattle.rk_names.specs.Longs.{IsLongOf};
+ghost use Rattle.rk_names.specs.Longs.{in_callout, IsLongOf};
 ghost use Rattle.rk_names.specs.Rules.{callout_fault, IsRefusedFor};
 
 use crate::errors::NameFault;
@@ -10,11 +10,11 @@ use std::alloc::{AllocError, Global};
 use std::marker::Model;
 
 /// What the requester passes to the handler: 0 to 4,095 bytes of UTF-8 without a zero byte
-/// (request_key(2), `callout_info`). At most 30 stand in the value, and the copies of more share them.
+/// (request_key(2), `callout_info`). At most 22 stand in the value, and the copies of more share them.
 #[derive(Debug, Drop)]
 pub struct Callout {
     /// The text, 0 to 4,095 bytes.
-    bytes: NameBytes,
+    bytes: NameBytes<{ Callout::IN_VALUE }>,
 }
 
 impl Model for Callout {
@@ -31,6 +31,9 @@ impl Model for Callout {
 impl Callout {
     /// The most bytes that it has.
     pub const MAX_LEN: usize = 4_095;
+
+    /// The most bytes that stand in its value.
+    pub const IN_VALUE: usize = 22;
 
     /// The first rule that the bytes break; `None` if `new` would make them a name. It takes no
     /// memory.
@@ -145,18 +148,18 @@ impl<'a> CalloutView<'a> {
         Callout::from_checked(alloc, self.bytes)
     }
 
-    /// What a copy takes of memory: nothing for at most 30 bytes. The only refusal is out of memory.
+    /// What a copy takes of memory: nothing for at most 22 bytes. The only refusal is out of memory.
     #[inline(always)]
     pub fn long(&self, alloc: Global) -> Result<Option<LongBytes>, AllocError>
-        ensures { IfOk result (λ long. IsLongOf long self.now) }
+        ensures { IfOk result (λ long. IsLongOf in_callout long self.now) }
     {
-        LongBytes::of(alloc, self.bytes)
+        NameBytes::<{ Callout::IN_VALUE }>::long(alloc, self.bytes)
     }
 
     /// A copy for which `long` has taken the memory before.
     #[inline(always)]
     pub fn to_owned_with(&self, long: Option<LongBytes>) -> Callout
-        requires { IsLongOf long self.now }
+        requires { IsLongOf in_callout long self.now }
         ensures { result ≡ self.now }
     {
         Callout {

@@ -1,6 +1,6 @@
 //! What a key is called.
 ghost use Rattle.std.specs.Prelude.{◌≡◌, IfOk, IfErr, None, MatchResult, Some};
-ghost use Rattle.rk_names.specs.Longs.{IsLongOf};
+ghost use Rattle.rk_names.specs.Longs.{in_description, IsLongOf};
 ghost use Rattle.rk_names.specs.Rules.{description_fault, IsRefusedFor};
 
 use crate::errors::NameFault;
@@ -14,7 +14,7 @@ use std::marker::Model;
 #[derive(Debug, Drop)]
 pub struct Description {
     /// The text, 1 to 4,095 bytes.
-    bytes: NameBytes,
+    bytes: NameBytes<{ Description::IN_VALUE }>,
 }
 
 impl Model for Description {
@@ -31,6 +31,9 @@ impl Model for Description {
 impl Description {
     /// The most bytes that it has.
     pub const MAX_LEN: usize = 4_095;
+
+    /// The most bytes that stand in its value.
+    pub const IN_VALUE: usize = 30;
 
     /// The first rule that the bytes break; `None` if `new` would make them a name. It takes no
     /// memory.
@@ -154,15 +157,15 @@ impl<'a> DescriptionView<'a> {
     /// What a copy takes of memory: nothing for at most 30 bytes. The only refusal is out of memory.
     #[inline(always)]
     pub fn long(&self, alloc: Global) -> Result<Option<LongBytes>, AllocError>
-        ensures { IfOk result (λ long. IsLongOf long self.now) }
+        ensures { IfOk result (λ long. IsLongOf in_description long self.now) }
     {
-        LongBytes::of(alloc, self.bytes)
+        NameBytes::<{ Description::IN_VALUE }>::long(alloc, self.bytes)
     }
 
     /// A copy for which `long` has taken the memory before.
     #[inline(always)]
     pub fn to_owned_with(&self, long: Option<LongBytes>) -> Description
-        requires { IsLongOf long self.now }
+        requires { IsLongOf in_description long self.now }
         ensures { result ≡ self.now }
     {
         Description {

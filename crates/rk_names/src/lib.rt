@@ -11,9 +11,9 @@
 //! A maker tests its rule and refuses by name, in one order: `Empty`, `TooLong`, `Dot`, `Byte`, and out of memory last. So `TypeName::new(b"user")`
 //! is made, `TypeName::new(b".x")` is refused with `Dot`. If bytes are still borrowed, as in a message that is being read, a [`TypeView`] keeps
 //! the same rule and takes no memory, and `to_owned` copies it without another look. [`DescriptionView`], [`CalloutView`] and [`PayloadView`] do
-//! likewise. A type lies in its value and takes no memory, and so does a description or a callout of at most 30 bytes. The copies of a longer
-//! one share its bytes, and so do those of a payload that `to_owned` has made. [`Payload::new`] moves the bytes that it is handed and takes no memory
-//! either.
+//! likewise. A type lies in its value and takes no memory, and so do a description of at most 30 bytes and a callout of at most 22
+//! (`IN_VALUE`). The copies of a longer one share its bytes, and so do those of a payload that `to_owned` has made. [`Payload::new`] moves the bytes
+//! that it is handed and takes no memory either.
 //!
 //! # How it is built
 //!

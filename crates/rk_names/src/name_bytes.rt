@@ -1,5 +1,5 @@
 //! The bytes of a description or a callout.
-ghost use Rattle.std.specs.Prelude.{◌≡◌, IfOk};
+ghost use Rattle.std.specs.Prelude.{◌≡◌, ◌≤◌, IfOk};
 ghost use Rattle.rk_names.specs.Longs.{IsLongOf};
 
 use crate::few_bytes::FewBytes;
@@ -7,26 +7,24 @@ use crate::shared_bytes::SharedBytes;
 use std::alloc::{AllocError, Global};
 use std::marker::Model;
 
-/// How many bytes stand in the value: with their number and the tag they take four words.
-const INLINE: usize = 30;
-
-/// The bytes of a description or a callout. At most 30 stand in the value, so that most copies take no memory; the copies of more share them.
+/// The bytes of a description or a callout. At most `FEW` stand in the value, so that most copies take no memory; the copies of more share them. `FEW` is
+/// at most 255.
 #[derive(Debug, Drop)]
-pub(crate) struct NameBytes {
+pub(crate) struct NameBytes<const FEW: usize> {
     /// The bytes, wherever they lie.
-    bytes: Held,
+    bytes: Held<FEW>,
 }
 
 /// Bytes in the value, or shared.
 #[derive(Debug, Drop)]
-enum Held {
-    /// At most 30.
-    Few(FewBytes<INLINE>),
+enum Held<const FEW: usize> {
+    /// At most `FEW`.
+    Few(FewBytes<FEW>),
     /// More.
     Many(SharedBytes),
 }
 
-impl Model for NameBytes {
+impl<const FEW: usize> Model for NameBytes<FEW> {
     ghost use Rattle.std.specs.Prelude.{List, ℕ};
     ghost use Rattle.rk_names.specs.Longs.{held_bytes};
 
@@ -35,20 +33,33 @@ impl Model for NameBytes {
     ghost view = { λ b. held_bytes b.bytes };
 }
 
-impl NameBytes {
-    /// A copy of the bytes. An `Err` is out of memory, which comes for more than 30 bytes alone.
+impl<const FEW: usize> NameBytes<FEW> {
+    /// A copy of the bytes. An `Err` is out of memory, which comes for more than `FEW` bytes alone.
     #[inline(always)]
-    pub(crate) fn of(alloc: Global, bytes: &[u8]) -> Result<NameBytes, AllocError>
+    pub(crate) fn of(alloc: Global, bytes: &[u8]) -> Result<NameBytes<FEW>, AllocError>
+        requires most { FEW ≤ 255 }
         ensures { IfOk result (λ copy. copy ≡ bytes.now) }
     {
-        let long = LongBytes::of(alloc, bytes)?;
+        let long = NameBytes::<FEW>::long(alloc, bytes)?;
         Ok(NameBytes::with(bytes, long))
+    }
+
+    /// What a copy of the bytes takes of memory: nothing for at most `FEW`. An `Err` is out of memory.
+    #[inline(always)]
+    pub(crate) fn long(alloc: Global, bytes: &[u8]) -> Result<Option<LongBytes>, AllocError>
+        ensures { IfOk result (λ long. IsLongOf FEW long bytes.now) }
+    {
+        if bytes.len() <= FEW {
+            return Ok(None);
+        }
+        Ok(Some(LongBytes::of(alloc, bytes)?))
     }
 
     /// A copy of the bytes for which the memory was taken before.
     #[inline(always)]
-    pub(crate) fn with(bytes: &[u8], long: Option<LongBytes>) -> NameBytes
-        requires { IsLongOf long bytes.now }
+    pub(crate) fn with(bytes: &[u8], long: Option<LongBytes>) -> NameBytes<FEW>
+        requires long { IsLongOf FEW long bytes.now }
+        requires most { FEW ≤ 255 }
         ensures { result ≡ bytes.now }
     {
         NameBytes {
@@ -70,10 +81,10 @@ impl NameBytes {
     }
 }
 
-impl Clone for NameBytes {
+impl<const FEW: usize> Clone for NameBytes<FEW> {
     ghost is_clone = { λ bytes copy. copy ≡ bytes };
 
-    fn clone(&self) -> Result<NameBytes, AllocError> {
+    fn clone(&self) -> Result<NameBytes<FEW>, AllocError> {
         Ok(NameBytes {
             bytes: match &self.bytes {
                 Held::Few(few) => Held::Few(few.clone()?),
@@ -86,7 +97,7 @@ impl Clone for NameBytes {
 /// A copy of bytes that do not stand in the value of a description or a callout, made before they are wanted there.
 #[derive(Debug, Drop)]
 pub struct LongBytes {
-    /// More than 30 bytes.
+    /// The bytes, which are too many for the value.
     bytes: SharedBytes,
 }
 
@@ -99,20 +110,10 @@ impl Model for LongBytes {
 }
 
 impl LongBytes {
-    /// What a copy of the bytes takes of memory: nothing for at most 30. An `Err` is out of memory.
-    #[inline(always)]
-    pub(crate) fn of(alloc: Global, bytes: &[u8]) -> Result<Option<LongBytes>, AllocError>
-        ensures { IfOk result (λ long. IsLongOf long bytes.now) }
-    {
-        if bytes.len() <= INLINE {
-            return Ok(None);
-        }
-        Ok(Some(LongBytes::copied(alloc, bytes)?))
-    }
-
+    /// A copy of the bytes. An `Err` is out of memory.
     #[cold]
     #[inline(never)]
-    fn copied(alloc: Global, bytes: &[u8]) -> Result<LongBytes, AllocError>
+    fn of(alloc: Global, bytes: &[u8]) -> Result<LongBytes, AllocError>
         ensures { IfOk result (λ long. long ≡ bytes.now) }
     {
         Ok(LongBytes {

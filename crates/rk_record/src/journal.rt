@@ -175,10 +175,16 @@ impl Journal {
         self.steps.push_reserved(step);
     }
 
-    /// Keeps the memory of these steps for the next volume, which forgets them, and returns that which was kept before.
-    pub(crate) fn keep_memory(&mut self, steps: Vec<Recorded>) -> Vec<Recorded>
+    /// Takes the memory of these steps for those of this volume, if it has none yet and no more memory, and else keeps it for the next volume. Both forget
+    /// the steps. Returns the memory that was kept before.
+    // (A volume whose steps were just dropped still lies in the processor's cache, and the memory that was kept does not.)
+    pub(crate) fn keep_memory(&mut self, mut steps: Vec<Recorded>) -> Vec<Recorded>
         ensures { self.new ≡ self.old }
     {
+        if self.steps.is_empty() && self.steps.capacity() <= steps.capacity() {
+            steps.clear();
+            mem::swap(&mut self.steps, &mut steps);
+        }
         mem::replace(&mut self.spare, steps)
     }
 

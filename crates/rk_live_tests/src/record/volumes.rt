@@ -101,24 +101,44 @@ fn volumes_join_to_a_run(rt: HostRuntime) {
     drop(hall);
 }
 
-/// The next volume takes the memory of these steps and forgets them. What is kept twice gives back what was kept first.
+/// The volume that is being recorded takes the memory of the one before, as long as it has no step, and forgets that one's steps. What it had is kept.
+#[test]
+fn a_volume_without_a_step_takes_memory(rt: HostRuntime) {
+    let alloc = rt.alloc();
+    let mut hall = hall(&rt, alloc, 6);
+    let steps = rolled(&rt, alloc, &mut hall).into_steps();
+    let capacity = steps.capacity();
+    same(&rt, (steps.len(), hall.keep_memory(steps).len()), (5, 0));
+    let less = hall.keep_memory(Vec::new(alloc));
+    same(&rt, (less.len(), less.capacity() < capacity), (0, true));
+    same(&rt, (hall.before(), hall.steps().len()), (5, 0));
+    play(&rt, alloc, &mut hall, NEXT);
+    is_second(&rt, &mut hall);
+    drop(hall);
+}
+
+/// The next volume takes it otherwise, and forgets the steps too. What is kept twice gives back what was kept first.
 #[test]
 fn memory_of_a_volume_is_taken_again(rt: HostRuntime) {
     let alloc = rt.alloc();
     let mut hall = hall(&rt, alloc, 6);
     let steps = rolled(&rt, alloc, &mut hall).into_steps();
+    play(&rt, alloc, &mut hall, NEXT);
     same(&rt, (steps.len(), hall.keep_memory(steps).len()), (5, 0));
     let steps = hall.keep_memory(Vec::new(alloc));
     same(&rt, (steps.len(), hall.keep_memory(steps).len()), (5, 0));
-    play(&rt, alloc, &mut hall, NEXT);
-    let second = hall.roll().expect(&rt, "a volume");
+    is_second(&rt, &mut hall);
+    same(&rt, (hall.before(), hall.steps().len()), (7, 0));
+    same(&rt, hall.keep_memory(Vec::new(alloc)).len(), 0);
+    drop(hall);
+}
+
+/// The volume that the hall hands out is the second, with its two steps.
+fn is_second(rt: &impl Abort, hall: &mut Hall) {
+    let second = hall.roll().expect(rt, "a volume");
     same(
-        &rt,
+        rt,
         (second.index(), second.before(), second.steps().len()),
         (2, 5, 2),
     );
-    same(&rt, (hall.before(), hall.steps().len()), (7, 0));
-    same(&rt, hall.keep_memory(Vec::new(alloc)).len(), 0);
-    drop(second);
-    drop(hall);
 }

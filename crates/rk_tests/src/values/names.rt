@@ -35,16 +35,16 @@ fn types_show_their_bytes(rt: HostRuntime) -> Result<(), Fail> {
     Ok(())
 }
 
-/// A copy of more than 30 bytes takes memory.
+/// A copy takes memory of more than 30 bytes of a description, and of more than 22 of a callout.
 #[test]
 fn only_long_names_take_memory(rt: HostRuntime) -> Result<(), Fail> {
     let alloc = rt.alloc();
-    for len in [1, 29, 30, 31, 32] {
+    for len in [1, 21, 22, 23, 24, 29, 30, 31, 32] {
         let bytes = &LETTERS[..len];
         let description = DescriptionView::new(bytes)?;
         same(&rt, description.long(alloc)?.is_some(), len > 30);
         let callout = CalloutView::new(bytes)?;
-        same(&rt, callout.long(alloc)?.is_some(), len > 30);
+        same(&rt, callout.long(alloc)?.is_some(), len > 22);
     }
     Ok(())
 }
