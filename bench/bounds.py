@@ -5,9 +5,9 @@ says why, where it raises the bound.
 """
 
 MOST = {
-    "found REQUEST": 1_920,
+    "found REQUEST": 1_910,
     "found, a description of 60 bytes": 2_660,
-    "found, with a callout": 2_060,
+    "found, with a callout": 2_050,
     "missing REQUEST": 1_640,
     "READ of one byte": 1_710,
     "DESCRIBE": 1_970,
