@@ -9,7 +9,7 @@ use Rattle.rk_machine.specs.declared.event.Answer.TheVariants as answer
 use Rattle.rk_record.specs.Copies.{Told}
 use Rattle.rk_record.specs.declared.told.ToldOf.TheVariants as told
 
--- how many bytes of a name of so many do not lie in its step: none where they are few, and all of more
+-- how many bytes of a name do not lie in its step, if at most `few` stand in its value: none of at most so many, and all of more
 abbrev pub outside : ℕ → ℕ → ℕ
 outside few len = if nat_le len few then 0 else len
 

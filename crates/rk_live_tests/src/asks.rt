@@ -62,7 +62,7 @@ pub fn request(name: &[u8]) -> Option<AskView<'_>> {
 pub fn long_request(name: &[u8]) -> Option<AskView<'_>> {
     request_with(
         name,
-        b"more than the thirty-one bytes that stand in a value",
+        b"more than the twenty-two bytes that stand in a value",
     )
 }
 

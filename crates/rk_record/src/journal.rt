@@ -175,9 +175,9 @@ impl Journal {
         self.steps.push_reserved(step);
     }
 
-    /// Takes the memory of these steps for those of this volume, if it has none yet and no more memory, and else keeps it for the next volume. Both forget
-    /// the steps. Returns the memory that was kept before.
-    // (A volume whose steps were just dropped still lies in the processor's cache, and the memory that was kept does not.)
+    /// Takes the memory of these steps for those of this volume, if it has none yet and no more memory, and keeps its own for the next volume. Else it keeps
+    /// that of these steps. They are forgotten either way. Returns the memory that was kept before.
+    // (Memory whose steps were just dropped still lies in the processor's cache, and that which was kept does not.)
     pub(crate) fn keep_memory(&mut self, mut steps: Vec<Recorded>) -> Vec<Recorded>
         ensures { self.new ≡ self.old }
     {

@@ -47,9 +47,9 @@ impl Hall {
         Ok(volume)
     }
 
-    /// Keeps the memory of these steps, and returns what was kept before. The volume that is being recorded takes it if it has no step yet, and else the
-    /// next one does. Both forget the steps. A volume that is done with gives its own ([`Volume::into_steps`]): new memory would be touched for the first
-    /// time during a turn, which takes longer than the turn.
+    /// Keeps the memory of these steps, and returns what was kept before. The volume that is being recorded takes it, if it has no step yet and no more
+    /// memory; else the next one does. Both forget the steps. A volume that is done with gives its own ([`Volume::into_steps`]): new memory would be touched
+    /// for the first time during a turn, which takes longer than the turn.
     pub fn keep_memory(&mut self, steps: Vec<Recorded>) -> Vec<Recorded>
         ensures { self.new ≡ self.old }
     {
