@@ -434,6 +434,19 @@ def made_or_not(program):
         return differs((replies, status, told), ([12, "E126", "E126", "E126", "E126", 32], 0, wanted))
 
 
+def made_told(program):
+    """A handler that has made its key is a line for `--log debug` alone, which tells what it was started for."""
+    told = {}
+    for level in "info", "debug":
+        with Daemon(program, "create user p:* * |/bin/cat\n", "--clients", "1", "--log", level) as daemon:
+            with daemon.client() as client:
+                reply = client.ask(want(b"p:1"))
+            status, lines = daemon.end()
+            told[level] = reply, status, [text_of(line) for line in lines if "handler of key" in line]
+    line = 'debug: handler of key 12 (create user "p:1", uid 1000; line 1, /bin/cat): exit status 0'
+    return differs(told, {"info": (12, 0, []), "debug": (12, 0, [line])})
+
+
 def piped(program, name, script, want_payload, callout=b"x", warning=None):
     """What a piped program outputs: the payload of its key; or None, and a warning of how it has ended."""
     with Daemon(program, f"create user p:* * |%room/program {name}\n", "--negative", "0", "--clients", "1") as daemon:
@@ -618,8 +631,8 @@ def nothing_left(program):
 
 def cases():
     for try_it in [client_killed, all_clients_killed, again_after, completed_and_killed, daemon_killed, terminated, no_asks, child_goes_on, replies_unread,
-                   told_whole, handler_leaves, stopped, signalled, waits_and_dies, not_followed, not_made, made_or_not, warned, ends_unknown, chain, many_wait,
-                   reads_to_the_end, second_start_fails, nothing_left]:
+                   told_whole, handler_leaves, stopped, signalled, waits_and_dies, not_followed, not_made, made_or_not, made_told, warned, ends_unknown, chain,
+                   many_wait, reads_to_the_end, second_start_fails, nothing_left]:
         yield try_it.__name__.replace("_", " "), try_it
     for uid, key in [(1000, 16), (1001, 13)]:
         yield f"each outcome wakes who waits, of uid {uid}", each_outcome_wakes, uid, key

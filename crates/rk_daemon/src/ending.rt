@@ -1,7 +1,7 @@
 //! How a handler has ended, as a line of the log.
 ghost use Rattle.std.specs.Prelude.{◌≡◌, ◌++◌, None, Some, MatchOption, OnOk, string_bytes};
 ghost use Rattle.std.specs.Option.{option_and_then};
-ghost use Rattle.rk_daemon.specs.Ending.{errno_text, error_text, how_text, named_text, natural, output_text, words_text};
+ghost use Rattle.rk_daemon.specs.Ending.{errno_text, error_text, how_text, level_of, named_text, natural, output_text, words_text};
 
 use crate::purpose::put_purpose;
 use log::Level;
@@ -33,7 +33,7 @@ pub struct End<'s, 'c> {
 
 impl<'s, 'c> End<'s, 'c> {
     ghost use Rattle.std.specs.Prelude.{◌≡◌, IfOk, string_bytes};
-    ghost use Rattle.rk_daemon.specs.Ending.{end_text, level_of};
+    ghost use Rattle.rk_daemon.specs.Ending.{end_text};
 
     /// The line, as `handler of key 12 (create user "debug:x", uid 1000; line 3, /bin/false): exit status 3`. It has neither the callout nor a payload. A
     /// byte of a name or a path outside printable ASCII, a `"` and a `\` are `\0` and three octal digits, and what is past 128 bytes is `..`.
@@ -51,16 +51,16 @@ impl<'s, 'c> End<'s, 'c> {
         put_output(&mut text, self.malformed)?;
         Ok(text)
     }
+}
 
-    /// How important it is. One that has exited with 0 and made its key is what is to be.
-    pub fn level(&self) -> Level
-        ensures { result ≡ level_of self.now.driven self.now.made }
-    {
-        match self.driven {
-            Driven::Ended(How::Exit(0)) if self.made => Level::Debug,
-            Driven::NotStarted => Level::Info,
-            _ => Level::Warn,
-        }
+/// How important the line is of a handler that has ended so, by whether it made its key. One that has exited with 0 and made it is what is to be.
+pub fn level_of(driven: Driven, made: bool) -> Level
+    ensures { result ≡ level_of driven made }
+{
+    match driven {
+        Driven::Ended(How::Exit(0)) if made => Level::Debug,
+        Driven::NotStarted => Level::Info,
+        _ => Level::Warn,
     }
 }
 

@@ -1,12 +1,12 @@
 //! What is done between a session's asks.
 
-use crate::ending::{End, error_number};
+use crate::ending::{End, error_number, level_of};
 use crate::handlers::Handlers;
 use crate::held::Held;
 use crate::purpose::{line_for, purpose_of};
 use crate::reporter::Reporter;
 use crate::workers::Shared;
-use log::{log, warn};
+use log::{Level, log, log_enabled, warn};
 use rk_conf::Conf;
 use rk_devices::{Gate, Report};
 use rk_hall::{HallNo, Halls, Names};
@@ -74,9 +74,17 @@ impl<'a, R: Wait + Eprint + Clock, N: Names, S: Shelf> Relief<'a, R, N, S> {
         }
     }
 
+    /// Hands out the volume of a hall. One that can't be handed out, since all of it is owed, is tried again once as much has come.
+    #[cold]
+    fn relieve<W: Wait>(&self, rt: &W, hall: HallNo) {
+        if let Ok(volume) = self.halls.roll(rt, hall) {
+            self.shelf.put(rt, &volume);
+            self.halls.take_back(rt, volume);
+        }
+    }
+
     /// Logs how a handler has ended.
-    fn tell(&self, end: &End<'_, '_>) {
-        let level = end.level();
+    fn tell(&self, level: Level, end: &End<'_, '_>) {
         match end.text(self.alloc) {
             Ok(text) => log!(self.log; level, "{text}"),
             Err(AllocError) => {
@@ -103,7 +111,11 @@ impl<'a, E: Wait + Eprint + Clock, N: Names, S: Shelf> Gate for Relief<'a, E, N,
             os_error,
         } = report;
         self.handlers.end(rt, key);
-        self.tell(&End {
+        let level = level_of(driven, course.made);
+        if !log_enabled!(self.log; level) {
+            return;
+        }
+        let end = End {
             key,
             subject,
             line: line_for(self.conf, subject),
@@ -111,18 +123,15 @@ impl<'a, E: Wait + Eprint + Clock, N: Names, S: Shelf> Gate for Relief<'a, E, N,
             made: course.made,
             malformed: course.malformed,
             error: error_number(os_error),
-        });
+        };
+        self.tell(level, &end);
     }
 
-    /// A volume that can't be handed out, since all of it is owed, is tried again once as much has come.
     #[inline(always)]
     fn answered<R: Wait>(&self, rt: &R, _session: SessionId) {
         for hall in HallNo::ALL {
-            if self.held.is_over(hall, MOST)
-                && let Ok(volume) = self.halls.roll(rt, hall)
-            {
-                self.shelf.put(rt, &volume);
-                self.halls.take_back(rt, volume);
+            if self.held.is_over(hall, MOST) {
+                self.relieve(rt, hall);
             }
         }
     }

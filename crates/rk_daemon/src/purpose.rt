@@ -10,6 +10,9 @@ use std::alloc::{AllocError, Global};
 /// The most bytes of a name or a path that are shown.
 const MOST: usize = 128;
 
+/// How many bytes a text takes that says what a handler was started for, if its names are of the usual lengths.
+const USUAL: usize = 128;
+
 /// The line that was chosen for what a handler was started for, if that is known. It is picked anew: the configuration never changes.
 pub fn line_for<'a>(conf: &'a Conf, subject: Option<&Subject>) -> Option<&'a Line>
     ensures { IsLineFor conf.now (option_copied subject.entry) (option_copied result) }
@@ -33,7 +36,7 @@ pub fn purpose_of(
 ) -> Result<String, AllocError>
     ensures { IfOk result (λ t. string_bytes t ≡ purpose_text subject.now (option_map (λ l. l.now) line.entry)) }
 {
-    let mut text = String::new(alloc);
+    let mut text = String::with_capacity(alloc, USUAL)?;
     put_purpose(&mut text, subject, line)?;
     Ok(text)
 }

@@ -13,6 +13,7 @@ use rk_macro::Command;
 use std::alloc::Global;
 use std::io;
 use std::process::{self, Processes};
+use std::thread::yield_now;
 
 /// Starts programs, and takes them back.
 #[derive(Drop)]
@@ -66,14 +67,17 @@ impl<'a, R: Processes> Programs<'a, R> {
     }
 }
 
-/// Starts the program of the command.
+/// Starts the program of the command. Threads that are ready on this processor run first: while one is, Linux places a new process on another processor,
+/// which has to wake up for it. The client is such a thread, which the read of its request wakes for a moment.
 fn spawn<R: Processes>(
     rt: &R,
     alloc: Global,
     command: &Command,
     keyutils: Option<&str>,
 ) -> io::Result<process::Child<R::Started>> {
-    made(alloc, command, keyutils)?.spawn(rt)
+    let mut made = made(alloc, command, keyutils)?;
+    yield_now();
+    made.spawn(rt)
 }
 
 /// Why a program was not started: the system's error number, if it gave one.
