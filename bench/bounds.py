@@ -5,11 +5,11 @@ says why, where it raises the bound.
 """
 
 MOST = {
-    "found REQUEST": 1_910,
-    "found, a description of 60 bytes": 2_660,
-    "found, with a callout": 2_050,
-    "missing REQUEST": 1_640,
-    "READ of one byte": 1_710,
-    "DESCRIBE": 1_970,
+    "found REQUEST": 1_900,
+    "found, a description of 60 bytes": 2_650,
+    "found, with a callout": 2_040,
+    "missing REQUEST": 1_630,
+    "READ of one byte": 1_700,
+    "DESCRIBE": 1_960,
     "ADD displacing": 4_450,
 }
