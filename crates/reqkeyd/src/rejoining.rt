@@ -10,6 +10,7 @@ use std::io::Write;
 
 /// Has `disk` read the files, each once, and writes how much of each hall's record they are. The status is 1, with a line on `errors`, where they are no
 /// record, out of memory, or where `writer` fails.
+#[inline(never)]
 pub fn rejoin<D: Disk, W: Write, E: Write>(
     alloc: Global,
     disk: &mut D,

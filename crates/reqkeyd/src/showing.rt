@@ -14,6 +14,7 @@ use std::io::Write;
 /// Reads the configuration, and writes what it has to say to what is asked; of a check, `errors` gets a line for each thing that is allowed and hardly
 /// meant. The status is 1, with a line on `errors`, if it can't be read or has
 /// nothing to say, or where `writer` fails.
+#[inline(never)]
 pub fn show<R: Files + AllocGlobal, W: Write, E: Write>(
     rt: &R,
     preview: &Preview<'_>,
