@@ -300,21 +300,38 @@ def memory(options):
     for who, words in programs.items():
         few, many = (run(words, script)[1] - len(script) // 1024 for script in scripts)
         row([who, f"{few:,}", f"{many:,}", f"{(many - few) * 1024 / (199 * OTHERS[-1]):,.0f}"])
-    print("\nResident memory of the servers, each with 64 workers\n")
-    table("program", *[head for head, *_ in RESIDENT])
+    print(f"\nResident memory of the servers, each with 64 workers; at rest, the median of {STARTS} starts\n")
+    table("program", "KiB at rest", *[head for head, *_ in AFTER])
     with tempfile.TemporaryDirectory() as name:
         found = servers(pathlib.Path(name))
         try:
             if RATTLE in found:
                 found[f"{RATTLE}, one memory pool"] = daemon(pathlib.Path(name), "pooled", "env", "MALLOC_ARENA_MAX=1")
             for who, server in found.items():
-                row([who, *[f"{resident_after(server, *load):,}" for _, *load in RESIDENT]])
+                row([who, f"{resident_at_rest(server):,}", *[f"{resident_after(server, *load):,}" for _, *load in AFTER]])
         finally:
             end_all(found)
 
 
+# so often a server is started to see what it has in memory at rest
+STARTS = 9
 # after which loads memory is looked at: a head, and so many connections and asks
-RESIDENT = [("KiB at rest", 0, 0), ("after 128,000 asks of 64 connections", 64, 128_000), ("after 1,000,000 more of 8", 8, 1_000_000)]
+AFTER = [("after 128,000 asks of 64 connections", 64, 128_000), ("after 1,000,000 more of 8", 8, 1_000_000)]
+
+
+def resident_at_rest(server):
+    """The median of the KiB of several starts: with a page come those beside it, so it depends on where Linux places the C library."""
+    found = [server.resident_at_rest()]
+    for _ in range(1, STARTS):
+        server.restart()
+        found.append(server.resident_at_rest())
+    return statistics.median(found)
+
+
+def resident_after(server, connections, asks):
+    """The KiB after a load."""
+    subprocess.run([peer("load"), server.path, str(connections), str(asks)], stdout=subprocess.DEVNULL, check=True)
+    return server.resident()
 
 
 # ---- profile
@@ -369,11 +386,9 @@ def to_peer(told, peers):
     return statistics.median(rate / peers_rate for (rate, _), (peers_rate, _) in zip(told, peers))
 
 
-def tell_rates(found, unit):
-    table("of", f"{unit}/s Rattle", "C", "ratio")
-    for of, best in found.items():
-        counts = {who: rate for who, (rate, _) in best.items()}
-        row([of, *pair(counts, "{:,}"), ratio(counts)])
+def middle(told):
+    """The median of a program's rates, and what it said behind that one."""
+    return statistics.median_low(told)
 
 
 def hall(options):
@@ -395,8 +410,11 @@ def spawn(options):
     """Both programs start others from the environment of a service."""
     for more in [], ["--resident", "256"]:
         print(f"\nStarts a second, Rattle's to C's to be {figures.STARTS}\n")
+        table("of", "starts/s Rattle", "C", "ratio")
         programs = {who: ["env", "-i", *ENVIRONMENT, *words] for who, words in both("spawn", "spawn_bench", more).items()}
-        tell_rates(rates(programs, options.runs), "starts")
+        for of, by in rounds(programs, options.runs).items():
+            counts = {who: middle(told)[0] for who, told in by.items()}
+            row([of, *pair(counts, "{:,}"), f"{to_peer(by[RATTLE], by[C]):.2f}" if RATTLE in by else "-"])
 
 
 # ---- serve
@@ -466,13 +484,6 @@ def working(folder, options):
         end_all(found)
 
 
-def resident_after(server, connections, asks):
-    """The KiB of a server after a load, or without one."""
-    if asks:
-        subprocess.run([peer("load"), server.path, str(connections), str(asks)], stdout=subprocess.DEVNULL, check=True)
-    return server.resident()
-
-
 def drive(found, others, options):
     """Each server in turn, and each further peer that takes so many connections."""
     table("connections", "program", "asks/s", "to C's", "latency", "99th, to C's")
@@ -483,8 +494,8 @@ def drive(found, others, options):
         loads_of |= {it.name: it.load(label, asks) for it in others if label in it.connections}
         for by in rounds(loads_of, options.runs).values():
             for who, told in by.items():
-                rate, latency = statistics.median_low(told)
-                peers = statistics.median_low(by[C])[1]
+                rate, latency = middle(told)
+                peers = middle(by[C])[1]
                 row([label, who, f"{rate:,}", f"{to_peer(told, by[C]):.2f}", latency.strip(", "), slower(latency, peers)])
 
 
@@ -502,8 +513,8 @@ def drive_made(server, runs):
     told = {who: rates for by in by_line.values() for who, rates in by.items() if who != C}
     for count, keys in told.items():
         starts = next(by[C] for of, by in by_line.items() if of.startswith(f"/bin/cat, {count} at a time"))
-        rate, latency = statistics.median_low(keys)
-        row([count, f"{rate:,}", f"{statistics.median_low(starts)[0]:,}", f"{to_peer(keys, starts):.2f}", latency.strip(", ")])
+        rate, latency = middle(keys)
+        row([count, f"{rate:,}", f"{middle(starts)[0]:,}", f"{to_peer(keys, starts):.2f}", latency.strip(", ")])
 
 
 # ---- pictures

@@ -32,7 +32,7 @@ class Server:
     """A server that runs, and its socket."""
 
     def __init__(self, words, path):
-        self.path = path
+        self.words, self.path = words, path
         self.child = subprocess.Popen([str(word) for word in words], stdout=subprocess.DEVNULL, stderr=subprocess.DEVNULL)
         for _ in range(1000):
             with socket.socket(socket.AF_UNIX) as tried:
@@ -48,6 +48,20 @@ class Server:
         """The KiB that it has in memory."""
         return int(re.search(r"VmRSS:\s+(\d+)", pathlib.Path(f"/proc/{self.child.pid}/status").read_text())[1])
 
+    def resident_at_rest(self):
+        """The same once that stays as it is for a tenth of a second: its threads begin after it can be connected to."""
+        before = 0
+        while (now := self.resident()) != before:
+            before = now
+            time.sleep(0.1)
+        return now
+
     def end(self):
         self.child.kill()
         self.child.wait()
+
+    def restart(self):
+        """Ends it, and starts it anew."""
+        self.end()
+        self.path.unlink(missing_ok=True)
+        self.__init__(self.words, self.path)

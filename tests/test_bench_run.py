@@ -57,6 +57,7 @@ def fake(programs):
         "daemon": lambda *_: Server(),
         "servers": lambda _: {who: Server() for who in programs},
         "peers_at_work": lambda _: {nanos: Server() for nanos in ["0", *run.WORK]},
+        "resident_at_rest": lambda _: 1000,
         "resident_after": lambda *_: 1000,
         "others_of": lambda *_: [others.Other("another", ["8"], "socket", "way")],
         "OTHERS": [0, 1, 2],
@@ -110,7 +111,7 @@ BARS = {
     "memory": (["Rattle: ", "C: "], "C: "),
     "profile": (["<A as B>::play & more: 40.50"], "<A as B>::play & more: 40.50"),
     "hall": (["/bin/cat, 1 at a time: 0.50", "/bin/cat, 8 at a time, Rattle: 500"], "/bin/cat, 1 at a time, C: 1,000"),
-    "spawn": (["/bin/cat, 8 at a time: 0.50", "/bin/cat, 1 at a time, C: 1,000"], "/bin/cat, 8 at a time, C: 1,000"),
+    "spawn": (["/bin/cat, 8 at a time: 0.50", "/bin/cat, 1 at a time, C: 900"], "/bin/cat, 8 at a time, C: 900"),
     "serve": (["64 connections: 0.50", "1 connection, 50 in one write: 0.50", "8 connections: 1.00"], None),
 }
 
