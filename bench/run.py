@@ -300,7 +300,7 @@ def memory(options):
     for who, words in programs.items():
         few, many = (run(words, script)[1] - len(script) // 1024 for script in scripts)
         row([who, f"{few:,}", f"{many:,}", f"{(many - few) * 1024 / (199 * OTHERS[-1]):,.0f}"])
-    print(f"\nResident memory of the servers, each with 64 workers; at rest, the median of {STARTS} starts\n")
+    print(f"\nResident memory of the servers, each with 64 workers; at rest, the median of {SERVER_STARTS} starts\n")
     table("program", "KiB at rest", *[head for head, *_ in AFTER])
     with tempfile.TemporaryDirectory() as name:
         found = servers(pathlib.Path(name))
@@ -308,21 +308,21 @@ def memory(options):
             if RATTLE in found:
                 found[f"{RATTLE}, one memory pool"] = daemon(pathlib.Path(name), "pooled", "env", "MALLOC_ARENA_MAX=1")
             for who, server in found.items():
-                row([who, f"{resident_at_rest(server):,}", *[f"{resident_after(server, *load):,}" for _, *load in AFTER]])
+                row([who, f"{at_rest(server):,}", *[f"{resident_after(server, *load):,}" for _, *load in AFTER]])
         finally:
             end_all(found)
 
 
 # so often a server is started to see what it has in memory at rest
-STARTS = 9
+SERVER_STARTS = 9
 # after which loads memory is looked at: a head, and so many connections and asks
 AFTER = [("after 128,000 asks of 64 connections", 64, 128_000), ("after 1,000,000 more of 8", 8, 1_000_000)]
 
 
-def resident_at_rest(server):
+def at_rest(server):
     """The median of the KiB of several starts: with a page come those beside it, so it depends on where Linux places the C library."""
     found = [server.resident_at_rest()]
-    for _ in range(1, STARTS):
+    for _ in range(1, SERVER_STARTS):
         server.restart()
         found.append(server.resident_at_rest())
     return statistics.median(found)
@@ -386,11 +386,6 @@ def to_peer(told, peers):
     return statistics.median(rate / peers_rate for (rate, _), (peers_rate, _) in zip(told, peers))
 
 
-def middle(told):
-    """The median of a program's rates, and what it said behind that one."""
-    return statistics.median_low(told)
-
-
 def hall(options):
     """What a call takes, as its thread sees it, with the time in which it waits for the lock."""
     table("of", "ns a call Rattle", "C", "calls/s Rattle", "C", "ratio")
@@ -413,7 +408,7 @@ def spawn(options):
         table("of", "starts/s Rattle", "C", "ratio")
         programs = {who: ["env", "-i", *ENVIRONMENT, *words] for who, words in both("spawn", "spawn_bench", more).items()}
         for of, by in rounds(programs, options.runs).items():
-            counts = {who: middle(told)[0] for who, told in by.items()}
+            counts = {who: statistics.median_low(told)[0] for who, told in by.items()}
             row([of, *pair(counts, "{:,}"), f"{to_peer(by[RATTLE], by[C]):.2f}" if RATTLE in by else "-"])
 
 
@@ -494,8 +489,8 @@ def drive(found, others, options):
         loads_of |= {it.name: it.load(label, asks) for it in others if label in it.connections}
         for by in rounds(loads_of, options.runs).values():
             for who, told in by.items():
-                rate, latency = middle(told)
-                peers = middle(by[C])[1]
+                rate, latency = statistics.median_low(told)
+                peers = statistics.median_low(by[C])[1]
                 row([label, who, f"{rate:,}", f"{to_peer(told, by[C]):.2f}", latency.strip(", "), slower(latency, peers)])
 
 
@@ -513,8 +508,8 @@ def drive_made(server, runs):
     told = {who: rates for by in by_line.values() for who, rates in by.items() if who != C}
     for count, keys in told.items():
         starts = next(by[C] for of, by in by_line.items() if of.startswith(f"/bin/cat, {count} at a time"))
-        rate, latency = middle(keys)
-        row([count, f"{rate:,}", f"{middle(starts)[0]:,}", f"{to_peer(keys, starts):.2f}", latency.strip(", ")])
+        rate, latency = statistics.median_low(keys)
+        row([count, f"{rate:,}", f"{statistics.median_low(starts)[0]:,}", f"{to_peer(keys, starts):.2f}", latency.strip(", ")])
 
 
 # ---- pictures

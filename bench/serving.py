@@ -33,16 +33,20 @@ class Server:
 
     def __init__(self, words, path):
         self.words, self.path = words, path
-        self.child = subprocess.Popen([str(word) for word in words], stdout=subprocess.DEVNULL, stderr=subprocess.DEVNULL)
+        self.begin()
+
+    def begin(self):
+        """Starts it, and waits until it can be connected to."""
+        self.child = subprocess.Popen([str(word) for word in self.words], stdout=subprocess.DEVNULL, stderr=subprocess.DEVNULL)
         for _ in range(1000):
             with socket.socket(socket.AF_UNIX) as tried:
-                if self.child.poll() is None and tried.connect_ex(str(path)) == 0:
+                if self.child.poll() is None and tried.connect_ex(str(self.path)) == 0:
                     return
             time.sleep(0.01)
             if self.child.poll() is not None:
-                raise Wrong(f"{words[0]} {words[1]} does not serve")
+                raise Wrong(f"{self.words[0]} {self.words[1]} does not serve")
         self.end()
-        raise Wrong(f"{words[0]} {words[1]} does not answer")
+        raise Wrong(f"{self.words[0]} {self.words[1]} does not answer")
 
     def resident(self):
         """The KiB that it has in memory."""
@@ -64,4 +68,4 @@ class Server:
         """Ends it, and starts it anew."""
         self.end()
         self.path.unlink(missing_ok=True)
-        self.__init__(self.words, self.path)
+        self.begin()

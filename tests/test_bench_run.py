@@ -57,7 +57,7 @@ def fake(programs):
         "daemon": lambda *_: Server(),
         "servers": lambda _: {who: Server() for who in programs},
         "peers_at_work": lambda _: {nanos: Server() for nanos in ["0", *run.WORK]},
-        "resident_at_rest": lambda _: 1000,
+        "at_rest": lambda _: 1000,
         "resident_after": lambda *_: 1000,
         "others_of": lambda *_: [others.Other("another", ["8"], "socket", "way")],
         "OTHERS": [0, 1, 2],

@@ -113,7 +113,7 @@ fn is_replay(words: &[String]) -> bool
 /// `errors`. `check` and `pick` with theirs write what a configuration has to say: 1 if it can't be read, has a fault or chooses no line, with that on
 /// `errors`. `rejoin` with files has `disk` read them, and tells whether they are a run of the machine: 0 if they are, else 1, with why not on `errors`.
 /// Help and the version are asked for, so they are written to `writer` with status 0.
-// (What else can be asked for is done in functions that are not inlined: a daemon would have the room for all of them on its stack, some 50 KB.)
+// (`rejoin`, `replay`, `show` and `explain` are not inlined: a daemon does none of them, and would have 12 KB of room for them in memory, on its stack.)
 pub fn run_words<
     R: Files
         + Net

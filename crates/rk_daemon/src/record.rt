@@ -21,7 +21,7 @@ const PREFIX: &str = "hall-";
 const PART: &str = ".hall-";
 
 /// Whether a record may be written into a folder: it is there, and no file in it has a name that begins as those of volumes and their parts do.
-// (It is not inlined: reading a folder takes 30 kilobytes of the stack, which a daemon would have in memory that writes no record.)
+// (It is not inlined: reading a folder takes some 40 KB of the stack, which a daemon that writes no record would have in memory.)
 #[inline(never)]
 pub fn is_free<R: Files + AllocGlobal + Clone + Drop>(rt: &R, folder: &str) -> io::Result<bool> {
     for entry in fs::read_dir(rt, folder)? {

@@ -99,7 +99,7 @@ impl<'a, R: Eprint + Clock + Wait> Reporter<'a, R> {
     }
 
     /// Writes a line. That it can't be written is passed over.
-    // (It is not inlined: a line takes two kilobytes of the stack, which each worker would have in memory while it waits.)
+    // (It is not inlined: a line takes 2 KB of the stack, which each worker would have in memory while it waits.)
     #[cold]
     #[inline(never)]
     fn write<D: Display>(&self, level: Level, text: &D) {
