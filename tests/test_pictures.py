@@ -12,6 +12,7 @@ from crates import top
 
 sys.path[:0] = [str(top / "tools"), str(top / "bench")]
 import figures
+import parts
 import picture
 from drawing import RED, width_of
 
@@ -81,11 +82,15 @@ def is_whole(made):
 made = picture.made()
 is_whole(made)
 count.same("files of docs/pictures", {path.name: path.read_text() for path in (top / "docs" / "pictures").iterdir()}, made)
-for name, document in {"crates.svg": architecture, "key.svg": machine, "construction.svg": machine}.items():
+shown = {"parts.svg": architecture, "threads.svg": architecture, "crates.svg": architecture, "key.svg": machine, "construction.svg": machine}
+for name, document in shown.items():
     count.same(f"where {name} is shown", f"(pictures/{name})" in document, True)
 
 drawn = [it for it in texts(xml.fromstring(made["crates.svg"])) if it not in picture.LEGEND.values()]
 count.same("crates", sorted(drawn), sorted(set(crates.uses()) - picture.LEFT_OUT))
+tests = {name for name in crates.uses() if name.endswith("_tests")}
+count.same("crates that are of one part each", sorted(parts.parts_of_crates()), sorted(set(crates.uses()) - tests))
+count.same("crates in all parts", sum(len(it.crates.split()) for it in parts.PARTS.values()), len(parts.parts_of_crates()))
 for table, path, name in [(picture.KEY, "rk_keys/src/key.rt", "Standing"), (picture.CONSTRUCTION, "rk_auth/src/construction.rt", "Stage")]:
     count.same(f"states of {table.title}", sorted(table.states), variants(path, name))
     words = set(re.findall(r"\b[A-Z][A-Za-z]+\b", " ".join(line for _, (_, _, lines) in table.lines for line in lines))) | set(table.states)

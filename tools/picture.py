@@ -1,5 +1,6 @@
 #!/usr/bin/env python3
-"""Draws the pictures of docs/pictures/: the crates in layers, of crates.txt, and the lives of a key and of a construction, of the tables below.
+"""Draws the pictures of docs/pictures/: the crates in layers, of crates.txt, and the lives of a key and of a construction, of the tables below. Those of the
+parts and of the threads are in parts.py.
 
 Use: picture.py OUT, with the folder to write to; `make pictures` calls it. The tables have the states of docs/MACHINE.md, by their names in the code.
 """
@@ -9,6 +10,7 @@ from typing import NamedTuple
 
 from drawing import BLUE, DARK, GREY, INK, LINE, PAPER, SAND, Drawing
 from layered import Rows, layers_of, reaches, reduced
+from parts import parts_picture, threads_picture
 
 sys.path.insert(0, str(pathlib.Path(__file__).resolve().parent.parent / "tests"))
 import crates
@@ -146,7 +148,13 @@ def states_picture(table):
 
 def made():
     """Each file, by its name."""
-    return {"crates.svg": crates_picture(), "key.svg": states_picture(KEY), "construction.svg": states_picture(CONSTRUCTION)}
+    return {
+        "parts.svg": parts_picture(crates.uses()),
+        "threads.svg": threads_picture(),
+        "crates.svg": crates_picture(),
+        "key.svg": states_picture(KEY),
+        "construction.svg": states_picture(CONSTRUCTION),
+    }
 
 
 if __name__ == "__main__":
