@@ -2,12 +2,16 @@
 ghost use Rattle.std.specs.Prelude.{◌≡◌, List, [], ◌∷◌, Option};
 ghost use Rattle.rk_rejoin.specs.Disk.{Reading, and_then, bytes_of};
 
+use thiserror::Error;
+
 /// Why a file was not read.
-#[derive(Clone, Copy, Debug, PartialEq, Eq)]
+#[derive(Clone, Copy, Debug, PartialEq, Eq, Error)]
 pub enum ReadFault {
     /// It can't be read.
+    #[error("it can't be read")]
     Unreadable,
     /// There was no memory for its bytes.
+    #[error("memory")]
     NoMemory,
 }
 

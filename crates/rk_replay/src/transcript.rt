@@ -11,13 +11,16 @@ use rk_macro::Command;
 use rk_served::Output;
 use std::alloc::{AllocError, Global};
 use std::marker::Model;
+use thiserror::Error;
 
 /// Why a line of a script changed nothing.
-#[derive(Clone, Copy, Debug, PartialEq, Eq)]
+#[derive(Clone, Copy, Debug, PartialEq, Eq, Error)]
 pub enum LineFault {
     /// It is no line of a script.
+    #[error("it is no line of a script")]
     NotALine,
     /// The session or construction that it names is not at that point.
+    #[error("the session or construction that it names is not at that point")]
     Unknown,
 }
 
