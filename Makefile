@@ -18,12 +18,11 @@ ZSH_DIR = $(PREFIX)/share/zsh/site-functions
 PYTHON_DIR = $(shell python3 -c 'import site, sys; \
 	print(next((it for it in site.getsitepackages() if it.startswith(sys.argv[1])), sys.argv[1] + "python3/dist-packages"))' '$(PREFIX)/lib/')
 
-.PHONY: all bench quick check cost walk edits demo soak install uninstall deb completion pictures clean help toolchain
+.PHONY: all kept bench quick check cost walk edits demo soak install uninstall deb completion pictures clean help toolchain
 
-all: build/proved  ## Prove and build the programs, into build/
-	@$(MAKE) --no-print-directory --silent --jobs=2 $(addprefix build/,$(PROGRAMS))
+all: $(addprefix build/,$(PROGRAMS))  ## Prove and build the programs, into build/, by the toolchain's gate; `make check` takes what it has proved
 
-bench: all  ## Prove and build the programs, and build their peers in C, into build/ (bench/README.md)
+bench: build/kept  ## Prove and build the programs, and build their peers in C, into build/ (bench/README.md)
 	@$(MAKE) -C bench --no-print-directory
 	@bench/rattle/build.py hall_bench spawn_bench
 
@@ -32,18 +31,28 @@ SOURCES := $(shell find crates -path '*/out' -prune -o -type f \( -name '*.rt' -
 
 build/proved: $(SOURCES)
 	@$(MAKE) --no-print-directory toolchain
-	@mkdir -p build
-	@echo "Proving the crates; the first time takes 40 minutes on four processors (build/prove.log)"
-	@tools/prove.py build/prove.log || { echo "A crate is not proved: build/prove.log says why." >&2; exit 1; }
+	@echo "Proving the crates; the first time takes 40 minutes on four processors (build/ci.log)"
+	@tests/check.py --programs || { echo "A crate is not proved: build/ci.log says why." >&2; exit 1; }
 	@touch $@
 
-# It is proved and built; the toolchain says so of what is there, or does it now. The last verdict of the log is the program's.
-build/%: build/proved
-	@echo "Building $* (build/$*.log)"
-	@cd crates/$* && { rt run -- --version < /dev/null > ../../build/$*.log 2>&1 || true; }
-	@grep -E '^logic=|^rt: nothing has changed' build/$*.log | tail -n 1 | grep -qE '^logic=proved|since the last proved build' && \
-		[ -x crates/$*/out/$* ] || { echo "$* is not proved: build/$*.log says why." >&2; exit 1; }
-	@cp crates/$*/out/$* $@
+$(addprefix build/,$(PROGRAMS)): build/proved
+	@[ -x $@ ] || tests/check.py --programs
+	@touch $@
+
+kept: build/kept  ## Prove and build the same over what `rt check` keeps in crates/NAME/out, and keep it there; `make check` takes none of it
+
+# The last verdict of each log is the program's.
+build/kept: $(SOURCES)
+	@$(MAKE) --no-print-directory toolchain
+	@mkdir -p build
+	@echo "Proving the crates over what is kept of them; the first time takes 40 minutes on four processors (build/prove.log)"
+	@tools/prove.py build/prove.log || { echo "A crate is not proved: build/prove.log says why." >&2; exit 1; }
+	@for name in $(PROGRAMS); do \
+		(cd crates/$$name && rt run -- --version < /dev/null > ../../build/$$name.log 2>&1); \
+		grep -E '^logic=|^rt: nothing has changed' build/$$name.log | tail -n 1 | grep -qE '^logic=proved|since the last proved build' && \
+			cp crates/$$name/out/$$name build/$$name || { echo "$$name is not proved: build/$$name.log says why." >&2; exit 1; }; \
+	done
+	@touch build/proved $(addprefix build/,$(PROGRAMS)) $@
 
 # The program that `make demo` shows. Where it is not built, the toolchain builds it for once, without its proofs.
 REQKEYD = build/reqkeyd
@@ -60,19 +69,19 @@ quick: toolchain  ## Check what changed since the last time, over kept work, in 
 	@tests/quick.py
 
 check: toolchain  ## Prove every crate and pass all tests; the last line counts them. With ANEW=1 nothing is taken from earlier runs, and edits.lock is written
-	@bash tests/check.sh
+	@tests/check.py
 
-# The crates of which `make cost` tells; none for all.
+# The crates of which `make cost` tells, and whose edits `make edits` tries; none for all.
 CRATES =
 
-cost:  ## List the functions that are the dearest to prove, of what the last checks kept; of some crates with CRATES=
+cost:  ## List the longest chain of crates, and the functions that are the dearest to prove, of what the last checks kept; of some crates with CRATES=
 	@tools/cost.py $(CRATES)
 
-walk: build/reqkeyd  ## Count the calls, the files and the changes of file of a request, in an unoptimized build of the daemon
+walk: build/kept  ## Count the calls, the files and the changes of file of a request, in an unoptimized build of the daemon
 	@tools/walk.py
 
-edits: toolchain  ## Try all edits that must fail, and write edits.lock, which lists what was refused. With ANEW=1 nothing is taken from earlier runs
-	@tests/test_edits.py --lock
+edits: toolchain  ## Try all edits that must fail, of some crates with CRATES=, and write edits.lock, which lists what was refused. With ANEW=1 nothing is taken from earlier runs
+	@tests/check.py --edits $(CRATES)
 
 # The library for keyutils' own programs.
 $(BUILT)/libkeyutils.so.1: $(wildcard clients/keyutils/*) clients/c/reqkey.c clients/c/reqkey.h

@@ -13,7 +13,7 @@ import sys
 import time
 
 import crates
-from test_edits import unfit_in
+from try_edits import unfit_in
 
 kept = crates.top / "build" / "quick"
 OF_PROGRAMS = ["replay", "replay_growths", "words", "pick", "client", "clients", "keyutils", "keyutils_habits", "trap", "serve", "manuals",
@@ -56,7 +56,7 @@ def tries_programs(built):
     if not tests:
         return None
     print(f"building the programs and running {' '.join(f'test_{name}' for name in tests)}", flush=True)
-    if not call("make"):
+    if not call("make", "kept"):
         return "a program is not built"
     programs = {**os.environ, "PROGRAMS": "build"}
     if not all(call(f"tests/test_{name}.py", env=programs) for name in tests):
@@ -97,7 +97,7 @@ def main():
             edited.append((name, own))
     if edited:
         print(f"trying the edits of {' '.join(name for name, _ in edited)}", flush=True)
-        if not call("tests/test_edits.py", *[name for name, _ in edited]):
+        if not call("tests/try_edits.py", *[name for name, _ in edited]):
             return "an edit is let through"
         for name, own in edited:
             keep(f"{name}.edits", own)

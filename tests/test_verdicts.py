@@ -7,7 +7,7 @@ import tempfile
 
 import crates
 from counted import Counted
-from verdicts import Verdicts, lines_of, lock_file
+from verdicts import LOT, Verdicts, lines_of_lock, lock_file
 
 count = Counted()
 # a crate, the one below it, and one that is not
@@ -20,12 +20,17 @@ def verdicts():
 
 def kept():
     """Whether the edits of the crate count as refused on this machine."""
-    return verdicts().is_kept(TRIED, has_control=False)
+    return verdicts().is_kept(TRIED)
 
 
 def locked():
     """Whether edits.lock lists them."""
     return verdicts().locked() == [TRIED]
+
+
+def on_a_lot():
+    """Whether a lot of them is tried, since only what is below has changed."""
+    return [*verdicts().lots(lambda _: ["one", "two", "three"])] == [TRIED]
 
 
 def changed(file, asked=kept, line=b""):
@@ -94,30 +99,52 @@ with tempfile.TemporaryDirectory() as name:
     count.same("one more library", kept(), False)
     (room / "crates.txt").write_text(lines)
 
-    lock_file().write_text(f"{TRIED} another-toolchain 0\n{APART} another-toolchain 0\n")
-    first.keep(TRIED, in_lock=True)
+    lock_file().write_text(f"{TRIED} another-toolchain 0 1\n{APART} another-toolchain 0 1 more=2\n{BELOW} another-toolchain 0\n")
+    first.keep(TRIED, in_lock=True, searched=3)
     here = first.line_of(TRIED)
     beside = [(TRIED, "another-toolchain"), (APART, "another-toolchain")]
-    count.same("the lock has a line of it, beside those that it had", sorted(lines_of(lock_file().read_text())), sorted([here, *beside]))
+    count.same("the lock has a line of it, beside those that it had, but for one with a single sum", sorted(lines_of_lock()), sorted([here, *beside]))
+    count.same("with what else is said of it", (lines_of_lock()[here], lines_of_lock()[beside[1]]), ((*first.sums[TRIED], "searched=3"), ("0", "1", "more=2")))
+    first.keep(TRIED, in_lock=True)
+    count.same("which stays while the sums do", lines_of_lock()[here][2:], ("searched=3",))
     count.same("and it counts", locked(), True)
     count.same("not for another source", changed(some(TRIED, "src"), locked), False)
+    for what, file, of_lock, of_lot in [
+        ("nothing else", None, True, False),
+        ("another source", some(TRIED, "src"), False, False),
+        ("another edit", some(TRIED, "edits"), False, False),
+        ("another definition", some(TRIED, "specs"), False, False),
+        ("HANDLES", "HANDLES", False, False),
+        ("another definition below", some(BELOW, "specs"), False, True),
+        ("another lemma below", some(BELOW, "proofs", "Cuts.antt"), False, True),
+        ("another interface below", some(BELOW, "out"), False, True),
+        ("another body below", some(BELOW, "src"), True, False),
+    ]:
+        got = (changed(file, locked), changed(file, on_a_lot)) if file else (locked(), on_a_lot())
+        count.same(f"whether the lock lists it, and a lot is tried, for {what}", got, (of_lock, of_lot))
     written = lock_file().read_text()
-    lock_file().write_text(written.replace(first.sums[TRIED], first.sums[TRIED][::-1]))
+    lock_file().write_text(written.replace(first.sums[TRIED][0], first.sums[TRIED][0][::-1]))
     count.same("nor by a line with another sum", locked(), False)
     lock_file().write_text(written.replace(" ".join(here), f"{TRIED} a-third-toolchain"))
     count.same("nor by a line of another toolchain", locked(), False)
     shutil.rmtree(room / "cache")
     count.same("so the edits are tried", verdicts().taken(for_lock=False), {})
     lock_file().write_text(written)
-    count.same("of what the lock lists some is drawn: of one crate, that one", verdicts().taken(for_lock=False), {})
+    count.same("what the lock lists is taken", [*verdicts().taken(for_lock=False)], [TRIED])
+    count.same("but what is drawn by lot", verdicts().taken(for_lock=False, drawn=[TRIED]), {})
     first.keep(TRIED)
-    count.same("what is kept is taken", [*verdicts().taken(for_lock=False)], [TRIED])
+    count.same("what is kept is taken", [*verdicts().taken(for_lock=False, drawn=[TRIED])], [TRIED])
     count.same("not for a line of the lock, which wants a control", verdicts().taken(for_lock=True), {})
     first.keep(TRIED, in_lock=True)
     count.same("and one that had it is", [*verdicts().taken(for_lock=True)], [TRIED])
     os.environ["ANEW"] = "1"
     count.same("but where all are to be tried again", verdicts().taken(for_lock=False), {})
+    count.same("and then there is no lot", changed(some(BELOW, "specs"), on_a_lot), False)
     del os.environ["ANEW"]
+    path = room / some(BELOW, "specs")
+    path.write_bytes(path.read_bytes() + b"\n\n")
+    verdicts().keep(TRIED, of_lot=True)
+    count.same("a lot that was refused is kept", (verdicts().is_kept(TRIED, LOT), kept()), (True, False))
     os.environ["XDG_CACHE_HOME"] = "cache"
     verdicts().keep(TRIED)
     count.same("a cache that is relative", kept(), False)

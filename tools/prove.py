@@ -1,5 +1,5 @@
 #!/usr/bin/env python3
-"""Proves the crates of the programs and builds these, as many side by side as there are processors, and prints a line for each as it is done.
+"""Proves the crates of the programs and builds these, as many side by side as there are processors, and prints a line for each as it is done: `make kept`.
 
     prove.py LOG
 

@@ -8,7 +8,7 @@ nor is what the compiler writes itself, as a destructor or a derived comparison.
 build/walk/reqkeyd is taken: it has all functions of the sources, since `rt run --backend rattle --opt-level 0`, which makes it, puts none into another. If
 the toolchain can't do that, build/reqkeyd is taken, in which most functions are parts of others, and the output says so.
 
-Needs valgrind, and the proofs that `make` has left in crates/NAME/out.
+Needs valgrind, and the proofs that `make kept` has left in crates/NAME/out.
 """
 import contextlib
 import functools
