@@ -22,6 +22,8 @@ enum reply { NUMBER, BYTES, RINGS, REFUSED };
 
 struct reqkey {
     int input, output;
+    int door;       /* the connection to a door that has handed over the other one, or -1 */
+    int handed;     /* what a door has handed over with a reply that is not read whole yet, or -1 */
     bool connected; /* the descriptor is its own */
     bool socket;    /* what it writes to is one */
     bool over;
@@ -100,6 +102,7 @@ struct reqkey *reqkey_open(int input, int output)
         return NULL;
     session->input = input;
     session->output = output;
+    session->door = session->handed = -1;
     session->connected = false;
     session->socket = is_socket(output);
     session->over = session->unspelt = false;
@@ -107,11 +110,9 @@ struct reqkey *reqkey_open(int input, int output)
     return session;
 }
 
-/* A socket that is none of the standard streams, also if the program has closed those: it would print to the daemon. -1 and errno. */
-static int new_socket(void)
+/* The same socket as none of the standard streams, also if the program has closed those: it would print to the daemon. -1 and errno. */
+static int above_streams(int descriptor)
 {
-    /* closed by exec(3) at once, since another thread may start a program at any time */
-    int descriptor = socket(AF_UNIX, SOCK_STREAM | SOCK_CLOEXEC, 0);
     if (descriptor < 0 || descriptor > STDERR_FILENO)
         return descriptor;
     int higher = fcntl(descriptor, F_DUPFD_CLOEXEC, STDERR_FILENO + 1), error = errno;
@@ -133,7 +134,8 @@ static int connected(const char *path)
         return -1;
     }
     strcpy(address.sun_path, path);
-    int descriptor = new_socket();
+    /* closed by exec(3) at once, since another thread may start a program at any time */
+    int descriptor = above_streams(socket(AF_UNIX, SOCK_STREAM | SOCK_CLOEXEC, 0));
     if (descriptor < 0)
         return -1;
     int result;
@@ -167,6 +169,8 @@ void reqkey_free(struct reqkey *session)
 {
     if (session != NULL && session->connected)
         close(session->input);
+    if (session != NULL && session->door >= 0)
+        close(session->door);
     free(session);
 }
 
@@ -178,6 +182,11 @@ void reqkey_forget(struct reqkey *session)
 int reqkey_descriptor(const struct reqkey *session)
 {
     return session->input;
+}
+
+int reqkey_door(const struct reqkey *session)
+{
+    return session->door;
 }
 
 /* ---- an ask into its frame, field by field */
@@ -251,10 +260,41 @@ static int write_all(struct reqkey *session, const unsigned char *bytes, size_t 
     return 0;
 }
 
+/* The first descriptor that comes with a reply is kept; others are closed, or have no room. */
+static void keep_handed(struct reqkey *session, struct msghdr *message)
+{
+    struct cmsghdr *head = CMSG_FIRSTHDR(message);
+    int handed;
+    if (head == NULL || head->cmsg_level != SOL_SOCKET || head->cmsg_type != SCM_RIGHTS || head->cmsg_len != CMSG_LEN(sizeof handed))
+        return;
+    memcpy(&handed, CMSG_DATA(head), sizeof handed);
+    if (session->handed < 0)
+        session->handed = handed;
+    else
+        close(handed);
+}
+
+/* Reads as read(2). What a door hands over comes with the reply to HELLO, and is looked for in no other; the system closes what nobody looks for. */
+static ssize_t read_some(struct reqkey *session, unsigned char *bytes, size_t length)
+{
+    union {
+        char room[CMSG_LEN(sizeof(int))];
+        struct cmsghdr align;
+    } control;
+    struct iovec part = {.iov_base = bytes, .iov_len = length};
+    struct msghdr message = {.msg_iov = &part, .msg_iovlen = 1, .msg_control = &control, .msg_controllen = sizeof control.room};
+    if (!session->connected || session->door >= 0 || session->frame[HEAD] != HELLO)
+        return read(session->input, bytes, length);
+    ssize_t done = recvmsg(session->input, &message, MSG_CMSG_CLOEXEC);
+    if (done > 0)
+        keep_handed(session, &message);
+    return done;
+}
+
 static int read_all(struct reqkey *session, unsigned char *bytes, size_t length)
 {
     while (length > 0) {
-        ssize_t done = read(session->input, bytes, length);
+        ssize_t done = read_some(session, bytes, length);
         if (done == 0)
             return over(session, REQKEY_ENDED);
         if (done < 0 && errno != EINTR)
@@ -359,6 +399,27 @@ static int ask_text(struct reqkey *session, const char **text)
 
 /* ---- the asks */
 
+/* From now on the session speaks over what a door has handed over; the connection to the door stays open as long. */
+static int take_over(struct reqkey *session)
+{
+    int handed = above_streams(session->handed);
+    session->handed = -1;
+    if (handed < 0)
+        return over(session, REQKEY_SYSTEM);
+    session->door = session->input;
+    session->input = session->output = handed;
+    return 0;
+}
+
+/* What came with no context is not taken. */
+static int leave_handed(struct reqkey *session, int result)
+{
+    if (session->handed >= 0)
+        close(session->handed);
+    session->handed = -1;
+    return result;
+}
+
 int reqkey_hello(struct reqkey *session, uint32_t uid, uint32_t gid, unsigned flags, uint32_t join, struct reqkey_rings *rings)
 {
     begin(session, HELLO);
@@ -367,10 +428,12 @@ int reqkey_hello(struct reqkey *session, uint32_t uid, uint32_t gid, unsigned fl
     put_number(session, flags, 1);
     put_number(session, join, 4);
     int result = ask(session, RINGS);
+    if (result == 0 && session->replied != 1 + 4 * 4)
+        result = over(session, REQKEY_MALFORMED);
+    if (result == 0 && session->handed >= 0)
+        result = take_over(session);
     if (result < 0)
-        return result;
-    if (session->replied != 1 + 4 * 4)
-        return over(session, REQKEY_MALFORMED);
+        return leave_handed(session, result);
     const unsigned char *at = session->reply + 1;
     if (rings != NULL)
         *rings = (struct reqkey_rings){number_at(at), number_at(at + 4), number_at(at + 8), number_at(at + 12)};

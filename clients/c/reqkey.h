@@ -129,7 +129,7 @@ struct reqkey *reqkey_connect(const char *path);
 struct reqkey *reqkey_open(int input, int output);
 
 /*
- * Ends a session, and closes the connection that reqkey_connect has made. A client's thread and process rings go with it, and its session ring where nobody
+ * Ends a session, and closes the connection that reqkey_connect has made, and that to a door. A client's thread and process rings go with it, and its session ring where nobody
  * else has joined it. NULL is no session, and nothing happens.
  */
 void reqkey_free(struct reqkey *session);
@@ -139,6 +139,13 @@ void reqkey_forget(struct reqkey *session);
 
 /* The descriptor that it reads from: the connection of a client. To set its limits of time, or whether exec(3) closes it, as it does unless that is changed. */
 int reqkey_descriptor(const struct reqkey *session);
+
+/*
+ * Behind a door (reqkey-door(8)) reqkey_hello takes the daemon's own connection in the place of the one that reqkey_connect has made. That one is given here,
+ * else -1. It has to stay open as long as the session, without a word: it is left open by exec(3) if the other one is. So limits of time are set after
+ * reqkey_hello.
+ */
+int reqkey_door(const struct reqkey *session);
 
 /* The name of a result, as "ENOKEY" of -126, and what it says in words. For any other number they are "?" and "unknown error". */
 const char *reqkey_name(int result);

@@ -19,11 +19,16 @@
 /* The calls after which a connection is made anew. The daemon reads a connection 1,048,576 times, at most 4,096 bytes each time. */
 enum { CALLS = 50000 };
 
-/* A session, and what its descriptor is. */
-struct held {
-    struct reqkey *session; /* or NULL */
+/* What a descriptor is. */
+struct file {
     dev_t device;
     ino_t inode;
+};
+
+/* A session, and what its descriptors are. */
+struct held {
+    struct reqkey *session; /* or NULL */
+    struct file file, door;
 };
 
 /* Sessions of calls that did not end, as long as their functions may go on with them. */
@@ -60,8 +65,10 @@ static struct reqkey *client(uint32_t join, struct reqkey_rings *rings)
     struct reqkey *session = reqkey_connect(path);
     if (session == NULL)
         return NULL;
-    bool other = join != 0 && own.daemon != 0 && connection_daemon(session) != own.daemon;
-    int result = other ? -REQKEY_ENOKEY : reqkey_hello(session, geteuid(), getegid(), 0, join, rings);
+    int result = reqkey_hello(session, geteuid(), getegid(), 0, join, rings);
+    /* (behind a door the daemon is known when HELLO was answered) */
+    if (result == 0 && join != 0 && own.daemon != 0 && connection_daemon(session) != own.daemon)
+        result = -REQKEY_ENOKEY;
     if (result < 0) {
         int error = errno_of(result);
         reqkey_free(session);
@@ -100,11 +107,22 @@ static struct reqkey *next_client(struct reqkey_rings *rings)
     return NULL;
 }
 
-/* Whether the descriptor still is this session's: the program may have closed it, and opened another file. */
+static struct file file_of(int descriptor)
+{
+    struct stat file = {.st_ino = 0};
+    return descriptor >= 0 && fstat(descriptor, &file) == 0 ? (struct file){file.st_dev, file.st_ino} : (struct file){0, 0};
+}
+
+static bool is_file(struct file file, int descriptor)
+{
+    struct file now = file_of(descriptor);
+    return now.device == file.device && now.inode == file.inode;
+}
+
+/* Whether the descriptors still are this session's: the program may have closed one, and opened another file. */
 static bool is_mine(const struct held *held)
 {
-    struct stat file;
-    return fstat(reqkey_descriptor(held->session), &file) == 0 && file.st_dev == held->device && file.st_ino == held->inode;
+    return is_file(held->file, reqkey_descriptor(held->session)) && is_file(held->door, reqkey_door(held->session));
 }
 
 /* It is gone from here before it ends: another thread may fork meanwhile, and its child must not find it. */
@@ -144,20 +162,20 @@ static bool may_change(sigset_t *before)
 /* This session, which may be none, in the place of the one before. */
 static bool is_now(struct reqkey *session, const struct reqkey_rings *rings)
 {
-    struct stat file = {.st_ino = 0};
     if (session == NULL)
         return false;
     end(&own.held);
-    fstat(reqkey_descriptor(session), &file);
-    own.held = (struct held){session, file.st_dev, file.st_ino};
+    own.held = (struct held){session, file_of(reqkey_descriptor(session)), file_of(reqkey_door(session))};
     own.rings = *rings;
     own.owner = getpid();
     own.uid = geteuid();
     own.gid = getegid();
     own.daemon = connection_daemon(session);
     own.calls = 0;
-    if (own.handed == rings->session)
+    if (own.handed == rings->session) {
         fcntl(reqkey_descriptor(session), F_SETFD, 0);
+        fcntl(reqkey_door(session), F_SETFD, 0); /* which fails without a door */
+    }
     return true;
 }
 
@@ -293,7 +311,7 @@ struct reqkey *session_begin(int32_t key)
     take_turn(__builtin_frame_address(0));
     bool handler = streams_are_told();
     if (handler)
-        own.held = (struct held){over_streams(), 0, 0};
+        own.held = (struct held){over_streams(), {0, 0}, {0, 0}};
     int fault = handler ? (own.held.session == NULL ? errno : 0) : is_connected() ? 0 : errno;
     if (fault == 0 && is_ring(key))
         fault = EOPNOTSUPP;

@@ -343,6 +343,35 @@ class Session:
         return data
 
 
+class _Connection(io.RawIOBase):
+    """A client's connection. A door (reqkey-door(8)) hands over the daemon's own with the reply to HELLO. That one is used then, and this one stays open."""
+
+    def __init__(self, ours: socket.socket) -> None:
+        self._now, self._all, self._looks = ours, [ours], True
+
+    def read(self, count: int = -1) -> bytes:
+        if not self._looks:
+            return self._now.recv(count)
+        data, handed, _, _ = socket.recv_fds(self._now, count, 1, getattr(socket, "MSG_CMSG_CLOEXEC", 0))
+        self._all += [socket.socket(socket.AF_UNIX, socket.SOCK_STREAM, 0, each) for each in handed]
+        return data
+
+    def write(self, data: bytes) -> int:
+        return self._now.send(data)
+
+    def greeted(self) -> None:
+        """HELLO was answered by rings: the first descriptor that came with them is the connection, and no other is looked for."""
+        self._looks = False
+        if len(self._all) > 1:
+            self._now = self._all[1]
+            self._now.settimeout(self._all[0].gettimeout())
+
+    def close(self) -> None:
+        for each in self._all:
+            each.close()
+        super().close()
+
+
 def connect(
     path: str | os.PathLike[str],
     *,
@@ -353,18 +382,18 @@ def connect(
     join: int = 0,
     timeout: float | None = None,
 ) -> Session:
-    """A client of the daemon at this socket, which acts for this uid and gid, or for those of this process.
+    """A client of the daemon at this socket, which acts for this uid and gid, or for the effective ones of this process.
 
     It has said HELLO, and `rings` are its rings. Where that is refused the connection is closed. `timeout` is how many seconds one read or write may take.
     """
-    with socket.socket(socket.AF_UNIX) as connection:
-        connection.settimeout(timeout)
-        connection.connect(os.fspath(path))
-        # it keeps the connection open until it is closed itself
-        stream = connection.makefile("rwb", buffering=0)
+    ours = socket.socket(socket.AF_UNIX)
+    stream = _Connection(ours)
     session = Session(stream, stream)
     try:
-        session.hello(os.getuid() if uid is None else uid, os.getgid() if gid is None else gid, thread=thread, process=process, join=join)
+        ours.settimeout(timeout)
+        ours.connect(os.fspath(path))
+        session.hello(os.geteuid() if uid is None else uid, os.getegid() if gid is None else gid, thread=thread, process=process, join=join)
+        stream.greeted()
     except BaseException:
         session.close()
         raise

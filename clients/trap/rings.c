@@ -62,8 +62,13 @@ static struct reqkey *connected(uint32_t number, uint32_t gid, const struct ring
     struct reqkey *session = reqkey_connect(path);
     if (session == NULL)
         return NULL;
-    bool other = ring != NULL && connection_daemon(session) != ring->daemon;
-    int result = other ? -REQKEY_EKEYREVOKED : reqkey_hello(session, number, gid, 0, ring == NULL ? 0 : ring->rings.session, are);
+    int result = reqkey_hello(session, number, gid, 0, ring == NULL ? 0 : ring->rings.session, are);
+    bool lost = ring != NULL && (result == -REQKEY_ENOKEY || result == -REQKEY_EACCES);
+    /* behind a door the daemon is known only when it has let somebody in: here into a ring that nobody keeps */
+    if (lost && connection_daemon(session) != ring->daemon && reqkey_hello(session, number, gid, 0, 0, are) < 0)
+        lost = false; /* and nothing is known */
+    if (ring != NULL && (result == 0 || lost) && connection_daemon(session) != ring->daemon)
+        result = -REQKEY_EKEYREVOKED;
     if (result == 0)
         return session;
     int error = errno_of(result);
