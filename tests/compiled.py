@@ -10,7 +10,7 @@ FOLDER = tempfile.TemporaryDirectory(prefix="refusing-")
 SANITIZED = ["-g", "-fsanitize=address,undefined", "-fno-sanitize-recover=all"]
 
 # What each client in C is built as.
-MADE = {"keyutils": "libkeyutils.so.1", "trap": "reqkey-trap"}
+MADE = {"keyutils": "libkeyutils.so.1", "trap": "reqkey-trap", "door": "reqkey-door"}
 
 
 @functools.cache

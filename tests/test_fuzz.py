@@ -1,5 +1,5 @@
 #!/usr/bin/env python3
-"""Fuzzes what is written in C and reads what others say: replies of a daemon, the memory of a hostile program, what a container runtime says. By clang's
+"""Fuzzes what is written in C and reads what others say: replies of a daemon, the memory of a hostile program, what a container runtime says, who comes to a door. By clang's
 libFuzzer, under its sanitizers, as many runs as take some seconds, from one seed; `tests/test_fuzz.py SECONDS` takes that long for each, from any."""
 import pathlib
 import re
@@ -17,7 +17,7 @@ NOTHING = "int LLVMFuzzerTestOneInput(const unsigned char *data, unsigned long s
 LIBRARY = ["trap/answer.c", "keyutils/calls.c", "keyutils/raw.c", "keyutils/left_out.c"]
 
 # Each target: how many runs, and what it is linked with.
-TARGETS = {"reply": (20000, []), "program": (40000, LIBRARY), "state": (200000, [])}
+TARGETS = {"reply": (20000, []), "program": (40000, LIBRARY), "state": (200000, []), "door": (20000, [])}
 
 
 def main():

@@ -14,7 +14,7 @@ sys.path.insert(0, str(top / "tools"))
 from program_help import option, part, said, subcommands
 
 count = Counted()
-PAGES = ["reqkeyd.8", "reqkeyctl.1", "reqkey-trap.1", "reqkeyd.conf.5"]
+PAGES = ["reqkeyd.8", "reqkeyctl.1", "reqkey-trap.1", "reqkey-door.8", "reqkeyd.conf.5"]
 
 
 def plain(words):
@@ -144,6 +144,25 @@ def of_trap():
     count.same("how much it says", len(texts), 3)
 
 
+def of_door():
+    """reqkey-door.8: its options, and that each stands in the synopsis; its reasons, by its sources."""
+    page = sections("reqkey-door.8")
+    if lacks("reqkey-door.8", "gcc", "make"):
+        return
+    with tempfile.TemporaryDirectory() as room:
+        text = said(made(count, "door", pathlib.Path(room)), "--help")
+    of_synopsis(page, "reqkey-door", [text])
+    sources = "".join(path.read_text() for path in (top / "clients" / "door").glob("*.c"))
+    said_by = re.findall(r'fputs\("reqkey-door: (.*?)\\n"', sources)
+    count.same("what reqkey-door says", sorted(it for it in said_by if it not in tagged(page["DIAGNOSTICS"])), [])
+    forms = [tag.partition(":")[0] for tag in tagged(page["DIAGNOSTICS"])]
+    warnings = [re.match(r"[a-z ]+", it)[0] for it in re.findall(r'log_warning\("([a-z].*?)"', sources)]
+    count.same("kinds of its lines", sorted(set(it for it in warnings if it not in forms)), [])
+    shown_text = " ".join(spoken(line) for line in page["DIAGNOSTICS"])
+    reasons = [re.split(r" ?%", it)[0] for it in re.findall(r'"((?:EACCES|EDQUOT|ENOMEM), .*?|no HELLO within .*?)"', sources)]
+    count.same("reasons of reqkey-door", ([it for it in reasons if it not in shown_text], len(reasons)), ([], 8))
+
+
 def of_configuration():
     """reqkeyd.conf.5: the macros of rk_conf, the codes of its faults in the order in which they are tried, and those of rk_macro."""
     page = sections("reqkeyd.conf.5")
@@ -178,6 +197,7 @@ for page in PAGES:
     alike(page)
 of_configuration()
 of_trap()
+of_door()
 of_warnings()
 for name, compare in [("reqkeyd", of_daemon), ("reqkeyctl", of_client)]:
     for program in there(count, built(name)[:1]):

@@ -31,7 +31,7 @@ static unsigned next_byte(void)
     return *input++;
 }
 
-static ssize_t fuzz_read(int descriptor, void *to, size_t size)
+__attribute__((unused)) static ssize_t fuzz_read(int descriptor, void *to, size_t size)
 {
     unsigned how = next_turn();
     (void)descriptor;
@@ -65,7 +65,7 @@ static ssize_t fuzz_write(int descriptor, const void *from, size_t size)
     return (ssize_t)(1 + how % size);
 }
 
-static ssize_t fuzz_send(int descriptor, const void *from, size_t size, int flags)
+__attribute__((unused)) static ssize_t fuzz_send(int descriptor, const void *from, size_t size, int flags)
 {
     if ((flags & MSG_NOSIGNAL) == 0)
         abort();
