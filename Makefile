@@ -91,8 +91,12 @@ $(BUILT)/libkeyutils.so.1: $(wildcard clients/keyutils/*) clients/c/reqkey.c cli
 $(BUILT)/reqkey-trap: $(wildcard clients/trap/* clients/keyutils/*) clients/c/reqkey.c clients/c/reqkey.h
 	@$(MAKE) --no-print-directory -C clients/trap OUT=$(abspath $(BUILT))
 
+# The door for a machine with several users.
+$(BUILT)/reqkey-door: $(wildcard clients/door/*)
+	@$(MAKE) --no-print-directory -C clients/door OUT=$(abspath $(BUILT))
+
 # What is installed beside the programs, and is written in C.
-IN_C = $(BUILT)/libkeyutils.so.1 $(BUILT)/reqkey-trap
+IN_C = $(BUILT)/libkeyutils.so.1 $(BUILT)/reqkey-trap $(BUILT)/reqkey-door
 
 INSTALL = BUILT='$(BUILT)' PREFIX='$(PREFIX)' DESTDIR='$(DESTDIR)' ZSH_DIR='$(ZSH_DIR)' PYTHON_DIR='$(PYTHON_DIR)' packaging/install.sh
 
@@ -105,7 +109,7 @@ uninstall:  ## Remove what make install has put there
 deb: $(addprefix $(BUILT)/,$(PROGRAMS)) $(IN_C)  ## Make a Debian package of the same, into build/
 	@BUILT='$(BUILT)' PACKAGES='$(PACKAGES)' packaging/debian/build.sh
 
-completion: $(addprefix $(BUILT)/,$(PROGRAMS)) $(BUILT)/reqkey-trap  ## Write what completes words in a shell, as make install has it, into build/completion/
+completion: $(addprefix $(BUILT)/,$(PROGRAMS)) $(BUILT)/reqkey-trap $(BUILT)/reqkey-door  ## Write what completes words in a shell, as make install has it, into build/completion/
 	@tools/completion.py $(BUILT) build/completion
 
 pictures:  ## Draw docs/pictures/ anew, of crates.txt and the tables of tools/picture.py

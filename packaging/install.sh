@@ -2,7 +2,7 @@
 # Installs the programs and what belongs to them, or removes it again: install.sh install, install.sh uninstall. `make` calls it, with these in the
 # environment.
 #
-#   BUILT       the folder that has the programs, reqkey-trap and libkeyutils.so.1
+#   BUILT       the folder that has the programs, reqkey-trap, reqkey-door and libkeyutils.so.1
 #   PREFIX      below which everything goes
 #   DESTDIR     put before all of that, for a package
 #   PYTHON_DIR  where Python finds modules
@@ -36,7 +36,7 @@ everything() {
     local examples=$share/doc/reqkeyd/examples
     local name
 
-    for name in reqkeyd reqkeyctl reqkey-trap; do
+    for name in reqkeyd reqkeyctl reqkey-trap reqkey-door; do
         put 755 "$BUILT/$name" "$PREFIX/bin/$name"
         put 644 "$room/completion/$name.bash" "$share/bash-completion/completions/$name"
         put 644 "$room/completion/$name.fish" "$share/fish/vendor_completions.d/$name.fish"
@@ -48,7 +48,9 @@ everything() {
     for name in packaging/systemd/*/*; do
         put_text "$name" "$PREFIX/lib/${name#packaging/}"
     done
-    put_text packaging/reqkeyd.conf "$examples/reqkeyd.conf"
+    for name in reqkeyd.conf reqkeyd-behind-door.conf; do
+        put_text "packaging/$name" "$examples/$name"
+    done
 
     # the documents, which the manual pages name; their pictures; and what users need of what they link (not CONTRIBUTING.md, tests/ and bench/)
     for name in docs/*.md docs/pictures/*; do

@@ -82,11 +82,24 @@ STARTED = [
     ("reqkey-trap --socket S -- cat so", ["some.file"]),
 ]
 
+# The same for reqkey-door.
+SERVED = [
+    ("reqkey-door --so", ["--socket"]),
+    ("reqkey-door --socket so", ["some.file"]),
+    ("reqkey-door --listen ", ["some.file"]),
+    ("reqkey-door --per-user ", []),
+    ("reqkey-door --socket S --ro", ["--root-any"]),
+    ("reqkey-door --root-any --al", ["--allow"]),
+    ("reqkey-door --allow 1000 --all", ["--allow"]),
+    ("reqkey-door none", []),
+]
+
 # Asks for completions as readline does: bash divides a word also at its `=`.
 DRIVER = """\
 source {0}/reqkeyd.bash
 source {0}/reqkeyctl.bash
 [ ! -e {0}/reqkey-trap.bash ] || source {0}/reqkey-trap.bash
+[ ! -e {0}/reqkey-door.bash ] || source {0}/reqkey-door.bash
 tried() {{
     COMP_WORDS=("$@") COMP_CWORD=$(($# - 1)) COMPREPLY=()
     "_${{1//-/_}}" "$1" "${{@: -1}}" "${{@: -2:1}}"
@@ -156,11 +169,12 @@ def in_zsh(made):
 
 
 def starter():
-    """The files for reqkey-trap, which is built for that; none where there is no compiler."""
-    if lacks("completion of reqkey-trap", "gcc", "make"):
+    """The files for reqkey-trap and reqkey-door, which are built for that; none where there is no compiler."""
+    if lacks("completion of reqkey-trap and reqkey-door", "gcc", "make"):
         return {}
     with tempfile.TemporaryDirectory() as room:
-        return completion.starter_of(compiled.made(count, "trap", pathlib.Path(room)))
+        folder = pathlib.Path(room)
+        return {**completion.starter_of(compiled.made(count, "trap", folder)), **completion.server_of(compiled.made(count, "door", folder))}
 
 
 def tried(daemon, client, made):
@@ -168,7 +182,7 @@ def tried(daemon, client, made):
     with tempfile.TemporaryDirectory() as room:
         folder = pathlib.Path(room)
         completion.write(folder, made)
-        calls = typed_calls(daemon, client) + (STARTED if f"{completion.STARTER}.bash" in made else [])
+        calls = typed_calls(daemon, client) + (STARTED + SERVED if f"{completion.STARTER}.bash" in made else [])
         in_bash(folder, calls)
         in_fish(folder, calls)
         in_zsh(folder)

@@ -23,14 +23,15 @@ PATH = {"PATH": f"{pathlib.Path(sys.executable).parent}:/usr/local/bin:/usr/bin:
 # What is installed below a PREFIX: programs to be run, and all else to be read. The module of Python and the functions of zsh have their place by options.
 PYTHON, ZSH, DOC = "lib/python3/dist-packages", "share/zsh/site-functions", "share/doc/reqkeyd"
 OF_A_PROGRAM = ["bin/{}", "share/bash-completion/completions/{}", "share/fish/vendor_completions.d/{}.fish", f"{ZSH}/_{{}}"]
+DOOR_UNITS, BEHIND = ["reqkey-door.service", "reqkey-door.socket"], "reqkeyd-behind-door.conf"
 NAMES = [
-    *(place.format(name) for name in ["reqkeyd", "reqkeyctl", "reqkey-trap"] for place in OF_A_PROGRAM),
-    *(f"lib/systemd/system/{name}" for name in ["reqkeyd.service", "reqkeyd-sweep@.service", "reqkeyd-sweep@.timer"]),
+    *(place.format(name) for name in ["reqkeyd", "reqkeyctl", "reqkey-trap", "reqkey-door"] for place in OF_A_PROGRAM),
+    *(f"lib/systemd/system/{name}" for name in ["reqkeyd.service", "reqkeyd-sweep@.service", "reqkeyd-sweep@.timer", *DOOR_UNITS]),
     *(f"lib/systemd/user/{name}" for name in ["reqkeyd.service", "reqkeyd-sweep.service", "reqkeyd-sweep.timer"]),
-    *(f"share/man/{page}" for page in ["man1/reqkey-trap.1", "man1/reqkeyctl.1", "man5/reqkeyd.conf.5", "man8/reqkeyd.8"]),
+    *(f"share/man/{page}" for page in ["man1/reqkey-trap.1", "man1/reqkeyctl.1", "man5/reqkeyd.conf.5", "man8/reqkey-door.8", "man8/reqkeyd.8"]),
     *(f"{DOC}/{name}" for name in ["LICENSE-APACHE", "LICENSE-MIT", "copyright", "CHANGELOG.md", "README.md", "SECURITY.md"]),
     *(f"{DOC}/{path.relative_to(top)}" for path in [*top.glob("docs/*.md"), *top.glob("docs/pictures/*")]),
-    *(f"{DOC}/examples/{name}" for name in ["example_client.c", "example_client.py", "example_handler.c", "example_handler.py", "reqkeyd.conf"]),
+    *(f"{DOC}/examples/{name}" for name in ["example_client.c", "example_client.py", "example_handler.c", "example_handler.py", "reqkeyd.conf", BEHIND]),
     "include/reqkey.h", f"{PYTHON}/reqkey.py", "lib/reqkeyd/libkeyutils.so.1", "share/reqkeyd/reqkey.c",
 ]
 FILES = {name: 0o755 if name.startswith("bin/") else 0o644 for name in NAMES}
@@ -55,6 +56,20 @@ def files(root):
     return {str(path.relative_to(root)): path.stat().st_mode & 0o7777 for path in root.rglob("*") if path.is_file()}
 
 
+def lets_in(prefix):
+    """The installed door lets its user in, and nobody else's HELLO."""
+    with Daemon(prefix / "bin" / "reqkeyd", environment=PATH) as daemon:
+        path, uid, gid = daemon.room / "door", str(os.geteuid()), str(os.getegid())
+        door = started(prefix / "bin" / "reqkey-door", "--socket", daemon.path, "--listen", path, env=PATH)
+        try:
+            ready = door.stderr.readline()
+            hello = [run(prefix / "bin" / "reqkeyctl", "--socket", path, "--uid", it, "--gid", gid, "hello") for it in [uid, "4000000000"]]
+        finally:
+            door.terminate()
+            door.communicate(timeout=LIMIT)
+        return ready, [(status, errors) for status, _, errors in hello], door.returncode
+
+
 def serves(prefix, conf):
     """The installed programs do what the example configuration says."""
     with Daemon(prefix / "bin" / "reqkeyd", conf.read_text(), "--clients", "5", environment=PATH) as daemon:
@@ -77,6 +92,7 @@ def used(name, prefix, python=PYTHON):
     served = serves(prefix, examples / "reqkeyd.conf")
     wanted = 0, (0, "hello\n", ""), (0, "True\n", ""), (0, f"{library}\n", ""), (0, [])
     count.same(f"{name}: the example configuration, and the library of a run", served, wanted)
+    count.same(f"{name}: the door", lets_in(prefix), ("reqkey-door: ready\n", [(0, ""), (1, "errno 13\n")], 0))
     usage = run(sys.executable, "-B", examples / "example_client.py", env={**PATH, "PYTHONPATH": str(prefix / python)})
     count.same(f"{name}: the client in Python", usage, (2, "", "usage: example_client.py SOCKET TYPE DESCRIPTION [CALLOUT]\n"))
     with tempfile.TemporaryDirectory() as room:
@@ -122,10 +138,31 @@ def sweeps(manager, unit, prefix):
         count.same(f"the unit of the {manager} that sweeps", got, ([0, 1], (0, "1\n", ""), (0, "12 user;1000;valid;p:1\n", ""), (0, [])))
 
 
+def doors(prefix):
+    """The units of the door, and the daemon behind it: both run as one user, at the same socket, which is theirs alone."""
+    folder = prefix / "lib" / "systemd" / "system"
+    told = dict(line.split("=", 1) for line in (folder / "reqkey-door.service").read_text().split("\n") if re.match("[A-Z][A-Za-z]*=", line))
+    same = {"ExecStart": f"{prefix}/bin/reqkey-door --socket %t/reqkeyd/socket", "User": "reqkeyd", "DynamicUser": "yes", "CapabilityBoundingSet": ""}
+    count.same("the unit of the door", {name: told.get(name) for name in same}, same)
+    behind = (prefix / "share" / "doc" / "reqkeyd" / "examples" / BEHIND).read_text().split("\n")
+    serve = f"ExecStart={prefix}/bin/reqkeyd serve --socket %t/%N/socket --conf %E/%N.conf --mode 600"
+    count.same("the daemon behind it", [line for line in behind if line[:1].isupper()], ["ExecStart=", serve, "RuntimeDirectoryMode=0700"])
+    with tempfile.TemporaryDirectory() as room:
+        units = pathlib.Path(room) / "units"
+        shutil.copytree(folder, units)
+        (units / "reqkeyd.service.d").mkdir()
+        shutil.copy(prefix / "share" / "doc" / "reqkeyd" / "examples" / BEHIND, units / "reqkeyd.service.d")
+        environment = {**PATH, "SYSTEMD_UNIT_PATH": f"{units}:"}
+        for name in ["reqkeyd.service", *DOOR_UNITS]:
+            found = run("systemd-analyze", "--system", "verify", "--man=no", "--recursive-errors=no", units / name, env=environment)
+            count.same(f"{name} behind a door", found, (0, "", ""))
+
+
 def verified(prefix):
     """What systemd itself finds in the units, which name the programs below this prefix."""
     if lacks("the units", "systemd-analyze"):
         return
+    doors(prefix)
     for manager in ["system", "user"]:
         with tempfile.TemporaryDirectory() as room:
             environment = {**PATH, "HOME": room, "XDG_RUNTIME_DIR": room}

@@ -1,5 +1,5 @@
 #!/usr/bin/env python3
-"""Makes what completes the words of reqkeyd, reqkeyctl and reqkey-trap in bash, zsh and fish, of what the programs say of themselves.
+"""Makes what completes the words of reqkeyd, reqkeyctl, reqkey-trap and reqkey-door in bash, zsh and fish, of what the programs say of themselves.
 
 Use: completion.py FOLDER OUT, with the folder of the programs and the one to write to; `make install` calls it. The programs make their help of the
 table by which they read their words, so a command, an option or a name that is new there is completed once this has run.
@@ -14,6 +14,7 @@ from program_help import option, part, said, subcommands
 
 PROGRAMS = ["reqkeyd", "reqkeyctl"]
 STARTER = "reqkey-trap"  # has no commands: options, and then another program with its words
+SERVER = "reqkey-door"  # has options alone
 FILES = {"PATH", "FILE", "FOLDER"}  # the values that are files or folders
 REST = "files"  # the argument that stands for any number of files
 
@@ -369,19 +370,64 @@ complete -c @NAME@ -x -a '(__fish_complete_subcommand - @VALUES@)'
 """
 
 
+SERVER_BASH = """\
+# Completes the words of @NAME@ in bash. Made by tools/completion.py of what the program says of itself.
+_@FUNCTION@()
+{
+    local -A values=(@VALUES@)
+    local current=${COMP_WORDS[COMP_CWORD]} before=${COMP_WORDS[COMP_CWORD - 1]}
+    COMPREPLY=()
+    [[ $before != = ]] || before=${COMP_WORDS[COMP_CWORD - 2]}
+    [[ $current != = ]] || { current= before=${COMP_WORDS[COMP_CWORD - 1]}; }
+    if [[ ${values[$before]} == PATH ]]; then
+        compopt -o filenames 2> /dev/null
+        mapfile -t COMPREPLY < <(compgen -f -- "$current")
+    elif [[ ! ${values[$before]} ]]; then
+        mapfile -t COMPREPLY < <(compgen -W "@OPTIONS@" -- "$current")
+    fi
+}
+complete -F _@FUNCTION@ @NAME@
+"""
+
+SERVER_ZSH = """\
+#compdef @NAME@
+# Completes the words of @NAME@ in zsh. Made by tools/completion.py of what the program says of itself.
+_arguments -S \\
+@OPTIONS@
+    && return
+"""
+
+SERVER_FISH = """\
+# Completes the words of @NAME@ in fish. Made by tools/completion.py of what the program says of itself.
+complete -c @NAME@ -f
+@OPTIONS@
+"""
+
+
+def alone_of(name, path, templates, fish_values):
+    """The files for a program without commands, by these templates; what stands there for the options with a value in fish."""
+    options = read_options(said(path, "--help"))
+    program = Program(name, Call("", options, []), {}, {})
+    with_value = {word: it.value for it in options if it.value for word in it.spellings}
+    in_bash, in_zsh, in_fish = templates
+    return {
+        f"{name}.bash": filled(in_bash, program, function=name.replace("-", "_"), options=spellings(options),
+                               values=" ".join(f"[{word}]={value}" for word, value in with_value.items())),
+        f"_{name}": filled(in_zsh, program, options="\n".join(f"    {zsh_option(it)} \\" for it in options)),
+        f"{name}.fish": filled(in_fish, program, options="\n".join(f"complete -c {name} {fish_option(it)}" for it in options),
+                               **({"values": " ".join(with_value)} if fish_values else {})),
+    }
+
+
 def starter_of(path):
     """The files for the program that starts others."""
-    options = read_options(said(path, "--help"))
-    program = Program(STARTER, Call("", options, []), {}, {})
-    with_value = {word: it.value for it in options if it.value for word in it.spellings}
     # (with a word other than an option before them, fish takes none for its own)
-    return {
-        f"{STARTER}.bash": filled(STARTER_BASH, program, function=STARTER.replace("-", "_"), options=spellings(options),
-                                  values=" ".join(f"[{word}]={value}" for word, value in with_value.items())),
-        f"_{STARTER}": filled(STARTER_ZSH, program, options="\n".join(f"    {zsh_option(it)} \\" for it in options)),
-        f"{STARTER}.fish": filled(STARTER_FISH, program, options="\n".join(f"complete -c {STARTER} {fish_option(it)}" for it in options),
-                                  values=" ".join(with_value)),
-    }
+    return alone_of(STARTER, path, [STARTER_BASH, STARTER_ZSH, STARTER_FISH], fish_values=True)
+
+
+def server_of(path):
+    """The files for the program that has options alone."""
+    return alone_of(SERVER, path, [SERVER_BASH, SERVER_ZSH, SERVER_FISH], fish_values=False)
 
 
 SHELLS = {"{}.bash": bash, "_{}": zsh, "{}.fish": fish}
@@ -406,3 +452,4 @@ if __name__ == "__main__":
     for name in PROGRAMS:
         write(out, made_of(read_program(folder / name)))
     write(out, starter_of(folder / STARTER))
+    write(out, server_of(folder / SERVER))

@@ -1,6 +1,6 @@
 #!/usr/bin/env bash
-# Makes a Debian package of what is built, by dpkg-deb alone: `make deb` calls it, with the folder BUILT that has the programs, reqkey-trap and
-# libkeyutils.so.1, and the folder PACKAGES for the package.
+# Makes a Debian package of what is built, by dpkg-deb alone: `make deb` calls it, with the folder BUILT that has the programs, reqkey-trap,
+# reqkey-door and libkeyutils.so.1, and the folder PACKAGES for the package.
 #
 # The same programs give the same bytes: times are SOURCE_DATE_EPOCH, or else that of the last commit, or where there is no history that of the program.
 # Nothing is run when the package is installed, and no daemon is started or restarted.
