@@ -2,15 +2,15 @@
 """An edit that a weaker definition below lets through is found by the lot of some of six revisions (verdicts.py), by the prover, on two made-up crates."""
 import os
 import pathlib
+import re
 import shutil
-import subprocess
 import tempfile
 
 import crates
 import try_edits
 from counted import Counted
 from programs import top
-from trial import Trial
+from trial import Trial, crate_words, ran
 from verdicts import Verdicts, lot
 
 count = Counted()
@@ -71,14 +71,19 @@ def lay_out(room):
         (room / path).parent.mkdir(parents=True, exist_ok=True)
         (room / path).write_text(text)
     shutil.copy(top / "HANDLES", room)
-    (room / ".git").mkdir()
+    for folder in [".git", "tried"]:
+        (room / folder).mkdir()
 
 
 def proved(room):
-    """Whether the two are proved as they stand."""
-    how = {"cwd": room, "stdin": subprocess.DEVNULL, "stdout": subprocess.PIPE, "stderr": subprocess.STDOUT, "text": True}
-    said = subprocess.run(["rt", "all", "check", "--jobs", "1"], **how).stdout
-    return "2 of 2 crates ok" in said or said[-2000:]
+    """Whether the two are proved as they stand; the library of the lower one is built."""
+    built = room / "crates"
+    library = built / "low" / "out" / "rlib" / "low.rlib"
+    shutil.rmtree(library, ignore_errors=True)
+    library.parent.mkdir(parents=True, exist_ok=True)
+    said = ran(["rattle", "build", *crate_words("low", built), "-o", library], built / "low")[0]
+    said += ran(["rattle", "check", *crate_words("over", built)], built / "over")[0]
+    return len(re.findall("^logic=proved", said, re.M)) == 2 or said[-2000:]
 
 
 def lots(room, definitions):
