@@ -61,13 +61,13 @@ NEEDS = {
     "test_verdicts": [],
     "test_wrong": [],
 }
-# Those that use keyutils' own programs wait until these are installed, as far as they can be.
-OF_KEYUTILS = ["test_container", "test_keyutils", "test_keyutils_habits", "test_stock", "test_trap"]
+# Those that use keyutils' own programs wait until these are installed, as far as they can be. (Here and below a name stands for all that begin with it.)
+OF_KEYUTILS = ["test_container", "test_keyutils", "test_stock", "test_trap"]
 # Those that depend on the clock: something has to come within some tenths of a second, or within the seconds for which a key lives; in test_trap one of two
 # processes has to be the first to want a descriptor.
-BY_THE_CLOCK = ["test_demo", "test_keyutils", "test_keyutils_habits", "test_record", "test_stock", "test_trap"]
-# Those that take more memory than others, in bytes.
-LARGE = {"test_fuzz": 2e9, "test_lots": 2e9, "test_trap": 2e9, "test_wrong": 3e9}
+BY_THE_CLOCK = ["test_demo", "test_keyutils", "test_record", "test_stock", "test_trap"]
+# Those that take more memory than others: up to 2 GB.
+LARGE = ["test_fuzz", "test_lots", "test_trap", "test_wrong"]
 # Those that take longer than others, in processor seconds. Tests come before edits, whose rank is how many of a crate there are.
 LONG = {"test_fuzz": 60, "test_lots": 70, "test_trap": 60, "test_wrong": 540}
 TESTS_FIRST = 1000
@@ -101,10 +101,11 @@ def edits_job(name, room, used, drawn, words):
 
 def test_job(path):
     """A test program."""
-    needs = NEEDS.get(path.stem, [("proof", "reqkeyd"), ("proof", "reqkeyctl")]) + ([("ended", "keyutils")] if path.stem in OF_KEYUTILS else [])
+    is_of = lambda names: path.stem.startswith(tuple(names))
+    needs = NEEDS.get(path.stem, [("proof", "reqkeyd"), ("proof", "reqkeyctl")]) + ([("ended", "keyutils")] if is_of(OF_KEYUTILS) else [])
     environ = {"LIMIT": os.environ.get("LIMIT", str(WAITS))}
     rank = TESTS_FIRST + LONG.get(path.stem, 0)
-    return Job(path.name, [path], needs, rank, LARGE.get(path.stem, 0.7e9), HANGS, path.stem in BY_THE_CLOCK, environ)
+    return Job(path.name, [path], needs, rank, 2e9 if is_of(LARGE) else 0.7e9, HANGS, is_of(BY_THE_CLOCK), environ)
 
 
 class Gate:

@@ -126,7 +126,7 @@ class Run:
             (self.room / "play").write_text(json.dumps(play))
             (self.room / "temporary").mkdir()
             check = self.room / "tests" / "check.py"
-            check.write_text(check.read_text().replace(" HANGS, path.stem in", f" {limit}, path.stem in"))
+            check.write_text(check.read_text().replace(" HANGS, is_of(", f" {limit}, is_of("))
             environ = {**os.environ, "PATH": f"{self.room / 'bin'}:{os.environ['PATH']}", "MADE_UP": name, "TMPDIR": f"{name}/temporary", "RT_JOBS": "4"}
             environ = {**{it: value for it, value in environ.items() if it not in ("ANEW", "CI")}, **({"ANEW": anew} if anew else {})}
             process = subprocess.Popen([check, *words], env=environ, stdin=subprocess.DEVNULL, stdout=subprocess.PIPE, stderr=subprocess.STDOUT, text=True)
