@@ -137,10 +137,25 @@ static int connect_to(const char *path)
     return made;
 }
 
+/* Says HELLO, and goes on over the connection that a door hands over with its answer; the one to the door stays open. */
+static bool greet(struct connection *c, const uint8_t *frame)
+{
+    _Alignas(struct cmsghdr) char control[CMSG_SPACE(sizeof(int))];
+    uint8_t reply[21];
+    struct iovec part = {reply, sizeof reply};
+    struct msghdr message = {.msg_iov = &part, .msg_iovlen = 1, .msg_control = control, .msg_controllen = sizeof control};
+    if (!write_out(c->socket, frame, sizeof hello) || recvmsg(c->socket, &message, MSG_CMSG_CLOEXEC) <= 4)
+        return false;
+    struct cmsghdr *head = CMSG_FIRSTHDR(&message);
+    if (head != NULL && head->cmsg_type == SCM_RIGHTS)
+        memcpy(&c->socket, CMSG_DATA(head), sizeof(int));
+    return true;
+}
+
 static bool open_session(struct connection *c, const char *path)
 {
     c->socket = connect_to(path);
-    return ask(c, hello, sizeof hello, NULL) >= 0 && (c->no != 0 || ask(c, add, sizeof add, NULL) == NUMBER_REPLY);
+    return greet(c, hello) && (c->no != 0 || ask(c, add, sizeof add, NULL) == NUMBER_REPLY);
 }
 
 /* The same, for a user of its own. */
@@ -150,7 +165,7 @@ static bool open_user(struct connection *c, const char *path)
     memcpy(frame, hello, sizeof hello);
     write_u32(frame + 5, FIRST_USER + c->no);
     c->socket = connect_to(path);
-    return ask(c, frame, sizeof frame, NULL) >= 0 && ask(c, add, sizeof add, NULL) == NUMBER_REPLY;
+    return greet(c, frame) && ask(c, add, sizeof add, NULL) == NUMBER_REPLY;
 }
 
 /* Whether a text is answered by this one. */

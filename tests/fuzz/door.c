@@ -35,6 +35,12 @@ static struct end *ends_of[DESCRIPTORS]; /* those that are looked at */
 static unsigned served[3];               /* open connections of the daemon */
 static int64_t moment;
 
+/* A byte of the input, and after its end one by chance: so that a short one goes far, too. */
+static unsigned some(void)
+{
+    return input_left > 0 ? next_byte() : next_turn() % 256;
+}
+
 static void holds(bool promise)
 {
     if (!promise)
@@ -72,13 +78,13 @@ static unsigned char sent_at(size_t place, bool inner)
 /* A HELLO, mostly right; or the answer of a daemon. */
 static void compose(struct other *it)
 {
-    unsigned how = next_byte();
+    unsigned how = some();
     unsigned char hello[] = {0, 0, 0, 14, 1, 0, 0, (unsigned char)(it->uid >> 8), (unsigned char)it->uid, 0, 0, 0, (unsigned char)(how % 3), 0, 0, 0, 0, 0};
     unsigned char rings[21] = {0, 0, 0, 17, 2}, refused[] = {0, 0, 0, 2, 3, 126};
     it->frame_length = !it->inner ? sizeof hello : how % 4 != 0 ? sizeof rings : sizeof refused;
     memcpy(it->frame, !it->inner ? hello : how % 4 != 0 ? rings : refused, it->frame_length);
     if (how >= 200)
-        it->frame[next_byte() % it->frame_length] = (unsigned char)next_byte();
+        it->frame[some() % it->frame_length] = (unsigned char)some();
 }
 
 /* ---- the system */
@@ -86,13 +92,13 @@ static void compose(struct other *it)
 static ssize_t recv_of(int descriptor, void *to, size_t size, int flags)
 {
     struct other *it = other_of(descriptor);
-    unsigned how = next_byte();
+    unsigned how = some();
     holds((flags & MSG_DONTWAIT) != 0 && size > 0);
     if (how >= 240) {
         errno = how >= 250 ? ECONNRESET : how % 2 == 0 ? EAGAIN : EINTR;
         return how >= 246 && how < 250 ? 0 : -1;
     }
-    size_t length = how % 3 == 0 ? size : 1 + how % 7;
+    size_t length = how % 3 == 0 ? 200 : 1 + how % 7;
     length = length > size ? size : length;
     for (size_t i = 0; i < length; i++) {
         if (it->said == 0 && !it->hands)
@@ -120,7 +126,7 @@ static void is_right_hello(const struct other *inner, const unsigned char *bytes
 static ssize_t sent(int descriptor, const unsigned char *bytes, size_t length, int flags)
 {
     struct other *it = other_of(descriptor);
-    unsigned how = next_byte();
+    unsigned how = some();
     holds((flags & (MSG_DONTWAIT | MSG_NOSIGNAL)) == (MSG_DONTWAIT | MSG_NOSIGNAL) && length > 0);
     if (it->inner && !it->hands) {
         is_right_hello(it, bytes, length);
@@ -236,7 +242,7 @@ static const struct client *asks(void)
 int daemon_connection(void)
 {
     const struct client *it = asks();
-    unsigned how = next_byte();
+    unsigned how = some();
     int made = how >= 200 ? -1 : opened(true, it->peer.uid);
     if (made < 0) {
         errno = how % 2 == 0 ? EAGAIN : ECONNREFUSED;
@@ -293,12 +299,12 @@ int64_t now_ms(void)
 
 static void something(void)
 {
-    int from = FIRST + (int)(next_byte() % 40);
+    int from = FIRST + (int)(some() % 40);
     for (int i = 0; i < 40; i++) {
         struct end *end = ends_of[FIRST + (from - FIRST + i) % 40];
         if (end == NULL)
             continue;
-        uint32_t broken = next_byte() % 8 == 0 ? EPOLLHUP : 0, events = end->events | broken;
+        uint32_t broken = some() % 8 == 0 ? EPOLLHUP : 0, events = end->events | broken;
         told = end->client;
         if (events != 0)
             client_happens(end, events);
@@ -313,9 +319,9 @@ int LLVMFuzzerTestOneInput(const uint8_t *data, size_t size)
     input_left = size;
     turn = next_byte() << 8 | next_byte();
     bounds = (struct bounds){BOUND, turn % 2 == 0};
-    for (unsigned steps = 0; input_left > 0 && steps < 400; steps++) {
-        unsigned how = next_byte();
-        int made = how % 8 == 0 ? opened(false, UIDS[next_byte() % 3]) : -1;
+    for (unsigned steps = 0; steps < 300; steps++) {
+        unsigned how = some();
+        int made = how % 8 == 0 ? opened(false, UIDS[some() % 3]) : -1;
         if (made >= 0)
             client_comes(made);
         else if (how % 8 == 1) {
