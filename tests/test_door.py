@@ -32,6 +32,7 @@ from trap import Inside, Listening, Trap, environment, notifies
 count = Counted()
 RUNTIME = top / "tests" / "clients" / "runtime.py"
 LINES = "create user made:* * |/bin/cat\ncreate user slow:* * |/bin/cat %room/fifo\n"
+FOLDER = tempfile.TemporaryDirectory(prefix="doors-")  # what is built once
 HELLO, EACCES, EINVAL, EDQUOT, ENOKEY = peer.frame(peer.hello(ONE, ONE)), "E13", "E22", "E122", "E126"
 
 
@@ -672,6 +673,12 @@ def by_trap(program, daemon, door):
         same([finds()[0], inside.run("keyctl", "add", "user", "n", "w", "@s")[0], finds()], [1, 0, (0, "w\n")], "a trap, and another daemon")
 
 
+@functools.cache
+def built_once(name):
+    """What a client's Makefile makes."""
+    return made(count, name, pathlib.Path(FOLDER.name) / name)
+
+
 def clients(program, door_program):
     """Each client, as several users."""
     with Behind(program, LINES) as daemon, Door(door_program, daemon.path) as door, tempfile.TemporaryDirectory(prefix="clients-") as folder:
@@ -687,10 +694,10 @@ def clients(program, door_program):
             done = ran(*words, text=True, user=uid, group=uid, extra_groups=[])
             same((done[0], "errno 13" in done[2]), (status, status == 1), f"reqkeyctl of {uid}")
         if available():
-            library = made(count, "keyutils", room / "library")
+            library = built_once("keyutils")
             by_keyctl([], {"LD_PRELOAD": str(library)}, door.path, "library")
             by_library(library, daemon, door)
-            trap = made(count, "trap", room / "trap") if notifies() else None
+            trap = built_once("trap") if notifies() else None
             if trap is not None:
                 by_keyctl([trap, "--"], {}, door.path, "trap")
                 by_trap(trap, daemon, door)
@@ -791,7 +798,10 @@ def ends_halls(path, door, *words):
     behind = {as_user(ONE, lambda: sorted({first(door, uid) for uid in new})) == [EACCES], shape(as_user(ONE + 8, first, door, ONE + 8)) == "rings"}
     trapped = [printed(it, ENDS) != ["True"] for it in words]
     as_user(ONE, lambda: [first(path, uid) for uid in new])
-    return [as_user(ONE, first, path, 400000) == EDQUOT, behind != {True}, *trapped]
+    # (a session ring of a client that has just gone may still have had one of the last places)
+    more = iter(range(400000, 500000, 4))
+    until(lambda: [as_user(ONE, first, path, next(more)) for _ in range(5)] == [EDQUOT] * 5, "a hall without room")
+    return [True, behind != {True}, *trapped]
 
 
 ROWS = {
@@ -810,16 +820,15 @@ def table(program, door_program):
     if not notifies():
         print("the table of SECURITY.md: not tried, this kernel hands no calls to a supervisor")
         return
-    with tempfile.TemporaryDirectory(prefix="table-") as folder:
-        trap = made(count, "trap", pathlib.Path(folder))
-        for name, tries_it in ROWS.items():
-            with Daemon(program, LINES + "create user whose:* * |/bin/echo %u %g\n", "--mode", "666") as daemon, Door(door_program, daemon.path, keeper=None) as door:
-                daemon.room.chmod(0o755)
-                with Listening(count, trap, daemon, environment()) as listening:
-                    state = json.dumps({"state": {"id": "a container"}})
-                    contained = [sys.executable, str(RUNTIME), str(listening.path), state]
-                    got = tries_it(daemon.path, door.path, Trap(trap, daemon.path).words(), contained)
-                    same(["anyone" if each else "nobody" for each in got], rows[name], f"who may {name}")
+    trap = built_once("trap")
+    for name, tries_it in ROWS.items():
+        with Daemon(program, LINES + "create user whose:* * |/bin/echo %u %g\n", "--mode", "666") as daemon, Door(door_program, daemon.path, keeper=None) as door:
+            daemon.room.chmod(0o755)
+            with Listening(count, trap, daemon, environment()) as listening:
+                state = json.dumps({"state": {"id": "a container"}})
+                contained = [sys.executable, str(RUNTIME), str(listening.path), state]
+                got = tries_it(daemon.path, door.path, Trap(trap, daemon.path).words(), contained)
+                same(["anyone" if each else "nobody" for each in got], rows[name], f"who may {name}")
 
 
 def main():
@@ -828,7 +837,7 @@ def main():
         count.end()
     if lacks("clients/door", "gcc", "make"):
         count.end()
-    with tempfile.TemporaryDirectory(prefix="doors-") as folder:
+    with FOLDER as folder:
         room = pathlib.Path(folder)
         room.chmod(0o755)
         doors = [it for it in made_twice(count, "door", room) if it is not None]
@@ -837,7 +846,7 @@ def main():
         programs = [shutil.copy(program, room) for program in there(count) if shutil.copy(client_of(program), room)]
         late = Late(doors[-1])
         for at, door_program in enumerate(doors):
-            for case in CASES:
+            for case in CASES if door_program == doors[-1] else [it for it in CASES if it is not table]:
                 tried(f"{door_program.parent.name} {case.__name__}", case, programs[at % len(programs)], door_program)
         tried("late", late.wrong)
     count.end()

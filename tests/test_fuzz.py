@@ -17,7 +17,7 @@ NOTHING = "int LLVMFuzzerTestOneInput(const unsigned char *data, unsigned long s
 LIBRARY = ["trap/answer.c", "keyutils/calls.c", "keyutils/raw.c", "keyutils/left_out.c"]
 
 # Each target: how many runs, and what it is linked with.
-TARGETS = {"reply": (20000, []), "program": (40000, LIBRARY), "state": (200000, []), "door": (500, [])}
+TARGETS = {"reply": (20000, []), "program": (40000, LIBRARY), "state": (200000, []), "door": (1500, [])}
 
 
 def main():

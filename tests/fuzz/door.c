@@ -94,6 +94,8 @@ static ssize_t recv_of(int descriptor, void *to, size_t size, int flags)
     struct other *it = other_of(descriptor);
     unsigned how = some();
     holds((flags & MSG_DONTWAIT) != 0 && size > 0);
+    if (it->inner && it->hands && it->pair >= 0)
+        holds(others_of[it->pair].turns > 0); /* else its client reads here */
     if (how >= 240) {
         errno = how >= 250 ? ECONNRESET : how % 2 == 0 ? EAGAIN : EINTR;
         return how >= 246 && how < 250 ? 0 : -1;
