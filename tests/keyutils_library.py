@@ -3,32 +3,19 @@ import os
 import pathlib
 import re
 import shutil
-import subprocess
 import tempfile
 
 from compiled import made_twice
-from programs import LIMIT, lacks, ran, there
+from packages import has
+from programs import lacks, ran, there
 
 UID = os.geteuid()
 ENVIRONMENT = {"ASAN_OPTIONS": "detect_leaks=0"}  # programs that end don't give all their memory back
 
 
-def install():
-    """Installs keyutils, where that goes within some minutes."""
-    quiet = {"stdin": subprocess.DEVNULL, "capture_output": True, "env": {**os.environ, "DEBIAN_FRONTEND": "noninteractive"}}
-    try:
-        for words in [["install", "-y", "keyutils"], ["update"], ["install", "-y", "keyutils"]]:
-            if not shutil.which("keyctl"):
-                subprocess.run(["apt-get", *words], timeout=LIMIT, **quiet)
-    except subprocess.TimeoutExpired:
-        pass
-
-
 def available():
     """Whether there are a compiler and keyutils, or keyutils could be installed."""
-    if not shutil.which("keyctl") and shutil.which("apt-get") and UID == 0:
-        install()
-    return not lacks("clients/keyutils", "gcc", "make", "keyctl")
+    return has("clients/keyutils", ["keyctl"], ["keyutils"]) and not lacks("clients/keyutils", "gcc", "make")
 
 
 class Programs:
