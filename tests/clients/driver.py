@@ -1,7 +1,10 @@
-"""Asks what a script says, by clients/python/reqkey.py, and writes a line of what came of each ask: as driver.c does, which tells the words.
+"""Requests what a script says, by clients/python/reqkey, and writes a line of what came of each: as driver.c does, which tells the words.
 
-A client has to say HELLO by the script, so this one makes its session without `connect`, and a handler without `handle`.
+A client has to say HELLO by the script, so this one makes its session without `connect`, and a handler without `handle`. With `aio` before the other words
+it is reqkey.aio that requests, and a handler uses `handle`.
 """
+import asyncio
+import inspect
 import io
 import pathlib
 import re
@@ -10,6 +13,7 @@ import sys
 
 sys.path.insert(0, str(pathlib.Path(__file__).resolve().parents[2] / "clients" / "python"))
 import reqkey
+import reqkey.aio
 
 
 def word(text):
@@ -35,6 +39,7 @@ ASKS = {
     "negate": lambda it, key, seconds, ring: it.negate(int(key), int(seconds), ring=int(ring)),
     "reject": lambda it, key, seconds, error, ring: it.reject(int(key), int(seconds), int(error), ring=int(ring)),
     "read": lambda it, key: it.read(int(key)),
+    "get": lambda it, kind, described, told: it.get(name(kind), name(described), callout(told)),
     "describe": lambda it, key: it.describe(int(key)),
     "revoke": lambda it, key: it.revoke(int(key)),
     "timeout": lambda it, key, seconds: it.timeout(int(key), int(seconds)),
@@ -51,6 +56,8 @@ FAULTS = {reqkey.Ended: "ended", reqkey.Malformed: "malformed", ValueError: "uns
 
 def told(result):
     """What an ask has given, in words."""
+    if isinstance(result, reqkey.Described):
+        result = str(result)
     if isinstance(result, tuple):
         return " ".join(map(str, result))
     if isinstance(result, (str, bytes)):
@@ -67,17 +74,26 @@ def connected(path):
     return reqkey.Session(stream, stream)
 
 
-def play(script, file, session=None):
+async def connected_aio(path):
+    return reqkey.aio.Session(*await asyncio.open_unix_connection(path))
+
+
+async def got(result):
+    """A result, which is awaited if it is to be."""
+    return await result if inspect.isawaitable(result) else result
+
+
+async def play(script, file, connects, session=None):
     for line in script:
         first, *words = line.rstrip("\n").split(" ")
         try:
             if first == "connect":
                 if session is not None:
-                    session.close()
-                session = connected(*words)
+                    await got(session.close())
+                session = await got(connects(*words))
                 said = "connected"
             else:
-                said = told(ASKS[first](session, *words))
+                said = told(await got(ASKS[first](session, *words)))
         except reqkey.Refused as refused:
             said = refused.errno.name
         except OSError:
@@ -87,8 +103,19 @@ def play(script, file, session=None):
         print(said, file=file)
 
 
-if sys.argv[1] == "client":
-    play(sys.stdin, sys.stdout)
+async def handled(words, aio):
+    """A script of a handler. With asyncio the first request, which assumes the authority, is that of `handle`."""
+    with open(words[1]) as lines, open(words[2], "w") as output:
+        session = None if aio else reqkey.Session(io.FileIO(0, "r", closefd=False), io.FileIO(1, "w", closefd=False))
+        if aio:
+            session = await reqkey.aio.handle(int(next(lines).split()[1]))
+            print("0", file=output)
+        await play(lines, output, connected, session)
+
+
+AIO = sys.argv[1] == "aio"
+WORDS = sys.argv[1 + AIO :]
+if WORDS[0] == "client":
+    asyncio.run(play(sys.stdin, sys.stdout, connected_aio if AIO else connected))
 else:
-    with open(sys.argv[2]) as lines, open(sys.argv[3], "w") as output:
-        play(lines, output, reqkey.Session(io.FileIO(0, "r", closefd=False), io.FileIO(1, "w", closefd=False)))
+    asyncio.run(handled(WORDS, AIO))
