@@ -1,12 +1,16 @@
 #!/usr/bin/env python3
-"""Tries the clients in C and in Python of clients/: each ask byte by byte, hostile replies, and each ask on the daemon, as a client and as a handler.
+"""Tries the clients of clients/ in C, Python, Go and Rust: each ask byte by byte, hostile replies, and each ask on the daemon, as a client and as a handler.
 
-Both are called by a driver (tests/clients/) that reads asks and tells what came of them, so that each table here is for both. The one in C is
-compiled twice: as users compile it, and so that a wrong access to memory ends it.
+Each is called by a driver (tests/clients/) that reads asks and tells what came of them, so that each table here is for all. The one in C is
+compiled twice: as users compile it, and so that a wrong access to memory ends it. Those in Go and Rust are built offline, where there is a compiler.
 """
+import asyncio
 import contextlib
+import inspect
 import itertools
+import os
 import pathlib
+import shutil
 import socket
 import sys
 import tempfile
@@ -15,6 +19,7 @@ import protocol_peer as peer
 from compiled import SANITIZED, compiled, sanitizes
 from counted import Counted
 from daemon import Daemon
+from packages import has
 from programs import lacks, ran, there, top
 
 sys.path.insert(0, str(top / "tools"))
@@ -85,10 +90,10 @@ UNSPELT = ["request @65536 a - 0", "request user @65536 - 0", "request user a @6
 
 
 class Language:
-    """A client by the words of its driver."""
+    """A client by the words of its driver. One that is not for `any_stream` waits for its streams, which then are pipes, and assumes first as a handler."""
 
-    def __init__(self, name, *words):
-        self.name, self.words = name, [str(word) for word in words]
+    def __init__(self, name, *words, any_stream=True):
+        self.name, self.words, self.any_stream = name, [str(word) for word in words], any_stream
 
     def asks(self, lines):
         """The results of these asks over sockets, line by line."""
@@ -126,8 +131,10 @@ def speaks(client, room):
     lines, bodies, replies, wanted = zip(*GOOD)
     [got] = sessions(client, [(lines, list(map(peer.frame, replies)), False)])
     count.same(f"{client.name}: asks over a socket", got, (list(wanted), list(bodies)))
-    output, told = client.handles(room, lines, input=b"".join(map(peer.frame, replies)))
-    count.same(f"{client.name}: asks of a handler", (told, output), (list(wanted), b"".join(map(peer.frame, bodies))))
+    first = [] if client.any_stream else [at for at, line in enumerate(lines) if line == "assume 2147483647"]
+    order = [*first, *[at for at in range(len(lines)) if at not in first]]
+    output, told = client.handles(room, [lines[at] for at in order], input=b"".join(peer.frame(replies[at]) for at in order))
+    count.same(f"{client.name}: asks of a handler", (told, output), ([wanted[at] for at in order], b"".join(peer.frame(bodies[at]) for at in order)))
     short = [(line, peer.frame(reply), want) for line, _, reply, want in GOOD if len(reply) < 100]
     [got] = sessions(client, [([line for line, *_ in short], [reply for _, reply, _ in short], True)])
     count.same(f"{client.name}: replies byte by byte", got[0], [want for *_, want in short])
@@ -154,7 +161,7 @@ def meets_hostile(client, room):
     cuts = [whole[:cut] for cut in range(len(whole))]
     for cut, (told, _) in zip(cuts, sessions(client, [(["read 3", "read 3"], [cut or None], False) for cut in cuts])):
         count.same(f"{client.name}: {len(cut)} bytes of a reply", told, ["ended", "ended"])
-    for cut in [b"", whole[:3], whole[:-1]]:
+    for cut in [b"", whole[:3], whole[:-1]] if client.any_stream else []:
         output, told = client.handles(room, ["read 3", "read 3"], input=cut)
         count.same(f"{client.name}: {len(cut)} bytes of a reply to a handler", (output, told), (peer.frame(peer.on_key(7, 3)), ["ended", "ended"]))
 
@@ -165,16 +172,40 @@ def spells(client):
     count.same(f"{client.name}: too long arguments", got, (["unspelt"] * len(UNSPELT) + ["7"], [peer.request(b"user", b"a", None, 0)]))
 
 
+def gets(client):
+    """`get` requests into the user ring and reads, both once more after EKEYEXPIRED, and never a third time; no other refusal is asked again."""
+    asked = [peer.request(b"user", b"a", b"c", -4), peer.on_key(7, 12), peer.request(b"user", b"a", b"c", -4), peer.on_key(7, 16)]
+    first, second, value, expired = peer.number(12), peer.number(16), peer.data(b"v"), peer.refused(127)
+    cases = [
+        ("a key", [first, value], [0, 1], "bytes v"),
+        ("a key that expired before it was read", [first, expired, second, value], [0, 1, 2, 3], "bytes v"),
+        ("a request that met an expired key", [expired, second, value], [0, 2, 3], "bytes v"),
+        ("a key that expires twice", [first, expired, second, expired], [0, 1, 2, 3], "EKEYEXPIRED"),
+        ("a request that meets an expired key twice", [expired, expired], [0, 2], "EKEYEXPIRED"),
+        ("an expired key, and then none", [first, expired, peer.refused(126)], [0, 1, 2], "ENOKEY"),
+        *[(f"a request with errno {errno}", [peer.refused(errno)], [0], ERRNOS[errno]) for errno in ERRNOS if errno != 127],
+        *[(f"a read with errno {errno}", [first, peer.refused(errno)], [0, 1], ERRNOS[errno]) for errno in ERRNOS if errno != 127],
+        ("a reply that is none", [first, peer.number(5)], [0, 1], "malformed"),
+        ("a second reply that is none", [first, expired, value], [0, 1, 2], "malformed"),
+        ("a session that ends", [first, None], [0, 1], "ended"),
+    ]
+    for (name, _, heard, want), got in zip(cases, sessions(client, [(["get user a c"], [it and peer.frame(it) for it in replies], False) for _, replies, *_ in cases])):
+        count.same(f"{client.name}: get, and {name}", got, ([want], [asked[at] for at in heard]))
+    [got] = sessions(client, [(["get user a -", "get user a "], [peer.frame(peer.refused(126))] * 2, False)])
+    count.same(f"{client.name}: get without a callout, and with an empty one", got[1], [peer.request(b"user", b"a", told, -4) for told in [None, b""]])
+
+
 def fails(client, room):
     """No daemon, and an output that takes nothing."""
     paths = [room / "none", room, "/" + "l" * 120]
     count.same(f"{client.name}: no daemon", client.asks([f"connect {path}" for path in paths]), ["system"] * len(paths))
-    with open("/dev/full", "wb") as full:
-        count.same(f"{client.name}: a full device", client.handles(room, ["read 3"] * 2, stdout=full)[1], ["system", "ended"])
-    ours, theirs = socket.socketpair()
-    theirs.close()
-    with ours:
-        count.same(f"{client.name}: a socket that nobody reads", client.handles(room, ["read 3"] * 2, stdout=ours)[1], ["system", "ended"])
+    if client.any_stream:
+        with open("/dev/full", "wb") as full:
+            count.same(f"{client.name}: a full device", client.handles(room, ["read 3"] * 2, stdout=full)[1], ["system", "ended"])
+        ours, theirs = socket.socketpair()
+        theirs.close()
+        with ours:
+            count.same(f"{client.name}: a socket that nobody reads", client.handles(room, ["read 3"] * 2, stdout=ours)[1], ["system", "ended"])
     with socket.socket(socket.AF_UNIX) as anybody:
         anybody.bind(bytes(108))  # what an empty path would name
         anybody.listen()
@@ -194,7 +225,8 @@ AS_CLIENT = [
     ("unlink 20 -1", "0"), ("unlink 20 -1", "ENOENT"), ("default -1", "0"), ("default 4", "0"), ("default 7", "4"), ("default 5", "EINVAL"),
     (f"add user k {ANY_WORD} -3", "28"), ("read 28", f"bytes {ANY_TOLD}"), ("add user k  -3", "EINVAL"), ("add user k v 0", "ENOKEY"),
     ("request user k - -2", "28"), ("revoke 28", "0"), ("revoke 28", "EKEYREVOKED"), ("read 28", "EKEYREVOKED"), ("clear -3", "0"), ("clear -2", "0"),
-    ("clear -8", "ENOKEY"), ("describe 28", "ENOKEY"), ("callout", "ENOKEY"), ("read 20", "bytes hello"),
+    ("clear -8", "ENOKEY"), ("describe 28", "ENOKEY"), ("callout", "ENOKEY"), ("read 20", "bytes hello"), ("get user p:1 -", "bytes hello"),
+    ("get user p:3 new", "bytes new"), ("get user none -", "ENOKEY"),
 ]
 
 # as the plain handler of key 12
@@ -219,16 +251,67 @@ def python_alone(room):
     with peer.answering(peer.rings(4, 8, 12, 16), peer.number(0)) as daemon:
         with reqkey.connect(daemon.path, uid=1, gid=2, thread=True, join=12) as session:
             count.same("connect", (session.rings, session.revoke(3), daemon.heard[0]), (reqkey.Rings(4, 8, 12, 16), None, peer.hello(1, 2, 12, 1)))
-        count.same("with", raised(session.revoke, 3), "Ended: REVOKE: the session is over")
+        count.same("with", raised(session.revoke, 3), f"Ended: {daemon.path}: REVOKE: the session is over")
     with peer.answering(peer.refused(13)) as daemon:
-        count.same("a HELLO that is refused", raised(reqkey.connect, daemon.path), "Refused: HELLO: EACCES (13)")
+        count.same("a HELLO that is refused", raised(reqkey.connect, daemon.path), f"Refused: {daemon.path}: HELLO: EACCES (13)")
         daemon.ended()
         count.same("its connection", daemon.more, b"")
     with socket.socket(socket.AF_UNIX) as listener:
         listener.bind(str(room / "silent"))
         listener.listen()
-        count.same("a daemon that says nothing", raised(lambda: reqkey.connect(room / "silent", timeout=0.01)), "timeout: timed out")
+        count.same("a daemon that says nothing", raised(lambda: reqkey.connect(room / "silent", timeout=0.01)), f"timeout: [Errno 110] {os.strerror(110)}: '{room}/silent'")
+    long = "/" + "l" * 120
+    for path, number in [(room / "none", 2), (room, 111), (long, 36)]:
+        count.same(f"a fault of the system names {path}", raised(reqkey.connect, path).partition(": ")[2], f"[Errno {number}] {os.strerror(number)}: '{path}'")
+    with peer.answering(peer.rings(4, 8, 12, 16), peer.data(b"user;7;negative;a;b")) as daemon, reqkey.connect(daemon.path) as session:
+        described = session.describe(3)
+        count.same("what is described", described, reqkey.Described("user", 7, reqkey.State.NEGATIVE, "a;b"))
     count.same("too great a number", raised(reqkey.Session.timeout, session, 1, 2**32), "ValueError: 4294967296 is no number of 32 bits without a sign")
+
+
+def signatures(kind):
+    """The calls of a session, each with its parameters and what it returns."""
+    return {name: (str(inspect.signature(call))) for name, call in inspect.getmembers(kind, inspect.isfunction) if name[0] != "_"}
+
+
+def asyncio_alone(room):
+    """What reqkey.aio has besides its asks: the calls of reqkey, tasks side by side, `connect`, and a request that is cancelled."""
+    import reqkey.aio
+
+    count.same("the calls of reqkey.aio", signatures(reqkey.aio.Session), signatures(reqkey.Session))
+
+    async def side_by_side():
+        with peer.answering(peer.rings(4, 8, 12, 16), peer.data(b"a"), peer.data(b"b")) as daemon:
+            async with await reqkey.aio.connect(daemon.path, uid=1, gid=2, process=True) as session:
+                got = await asyncio.gather(session.read(3), session.read(4)), session.rings
+            daemon.ended()
+            return got, daemon.heard
+
+    async def cancelled():
+        with socket.socket(socket.AF_UNIX) as listener:
+            listener.bind(str(room / "mute"))
+            listener.listen()
+            session = reqkey.aio.Session(*await asyncio.open_unix_connection(str(room / "mute")), "here")
+            request = asyncio.create_task(session.read(3))
+            await asyncio.sleep(0)
+            request.cancel()
+            await asyncio.gather(request, return_exceptions=True)
+            try:
+                return request.cancelled(), await session.read(3)
+            except reqkey.Ended as fault:
+                return request.cancelled(), str(fault)
+            finally:
+                await session.close()
+
+    heard = [peer.hello(1, 2, 0, 2), peer.on_key(7, 3), peer.on_key(7, 4)]
+    count.same("tasks that share a session", asyncio.run(side_by_side()), (([b"a", b"b"], reqkey.Rings(4, 8, 12, 16)), heard))
+    count.same("a request that is cancelled", asyncio.run(cancelled()), (True, "here: READ: the session is over"))
+    for path, number in [(room / "none", 2), ("/" + "l" * 120, 36)]:
+        fault = raised(lambda: asyncio.run(reqkey.aio.connect(path)))
+        count.same(f"asyncio: a fault of the system names {path}", fault.partition(": ")[2], f"[Errno {number}] {os.strerror(number)}: '{path}'")
+    with peer.answering(peer.refused(13)) as daemon:
+        fault = raised(lambda: asyncio.run(reqkey.aio.connect(daemon.path)))
+        count.same("asyncio: a HELLO that is refused", fault, f"Refused: {daemon.path}: HELLO: EACCES (13)")
 
 
 def raised(call, *words):
@@ -249,7 +332,7 @@ def on_daemon(client, program):
 def on_handler(client, program):
     """Each ask in a handler, done and refused; and each way to end a construction."""
     for asks, outcome in [(AS_HANDLER, "12"), *[([("assume 12", "0"), (end, "0")], outcome) for end, outcome in ENDS]]:
-        lines, wanted = zip(*asks)
+        lines, wanted = zip(*(asks if client.any_stream else asks[asks.index(("assume 12", "0")) :]))
         with Daemon(program, "create user h:* * %room/handler\n") as daemon:
             (daemon.room / "script").write_text("\n".join(lines) + "\n")
             daemon.script("handler", f"#!/bin/sh\nexec {' '.join(client.words)} handler %room/script %room/told\n")
@@ -267,18 +350,58 @@ def differing(lines, told, wanted):
 
 
 def examples(program, ask, handler):
-    """The examples of a language: a client requests what a handler makes."""
+    """The examples of a language: a client requests what a handler makes, and the next one finds it, whatever its callout."""
     with Daemon(program, f"create user capitals:* * {handler} %k\n") as daemon:
-        got = [ran(ask, daemon.path, *words) for words in [["user", "capitals:a", "hello"], ["user", "capitals:b", ""], ["user", "capitals:c"], ["user"]]]
-        told = [(status, b"HELLO" in output, b"ENOKEY" in errors, b"usage" in errors) for status, output, errors in got]
-        none = (1, False, True, False)
-        count.same(f"examples {ask} on {program.name}", told, [(0, True, False, False), none, none, (2, False, False, True)])
+        name = ["user", "capitals:a"]
+        asked = [[*name, "hello"], name, [*name, "other"], ["user", "capitals:b", ""], ["user", "capitals:c"], ["user"]]
+        got = [ran(ask, daemon.path, *words) for words in asked]
+        told = [(status, b"HELLO" in output, b"ENOKEY" in errors, b"usage: " in errors) for status, output, errors in got]
+        found, none = (0, True, False, False), (1, False, True, False)
+        count.same(f"examples {ask} on {program.name}", told, [found, found, found, none, none, (2, False, False, True)])
+
+
+def in_go(room):
+    """The driver in Go."""
+    if not has("clients/go", ["go"], ["golang-go"]):
+        return None
+    folder = room / "go"
+    shutil.copytree(CLIENTS / "go", folder / "reqkey")
+    (folder / "driver").mkdir()
+    shutil.copy(DRIVERS / "driver.go", folder / "driver" / "main.go")
+    (folder / "driver" / "go.mod").write_text("module driver\n\ngo 1.19\n\nrequire reqkey v0.0.0\n\nreplace reqkey => ../reqkey\n")
+    environment = {**os.environ, "GOFLAGS": "-mod=mod", "GOPROXY": "off", "GOCACHE": str(folder / "cache"), "GOTOOLCHAIN": "local", "CGO_ENABLED": "0"}
+    count.same("gofmt of clients/go", ran("gofmt", "-l", CLIENTS / "go", DRIVERS, text=True), (0, "", ""))
+    count.same("vet of clients/go", ran("go", "vet", ".", cwd=folder / "reqkey", env=environment, text=True), (0, "", ""))
+    built = ran("go", "build", "-o", room / "driver-go", ".", cwd=folder / "driver", env=environment, text=True)
+    count.same("clients/go is built", built, (0, "", ""))
+    return None if built[0] else room / "driver-go"
+
+
+def in_rust(room):
+    """The driver in Rust."""
+    if lacks("clients/rust", "cargo"):
+        return None
+    folder = room / "rust"
+    shutil.copytree(CLIENTS / "rust", folder / "reqkey")
+    (folder / "src").mkdir()
+    shutil.copy(DRIVERS / "driver.rs", folder / "src" / "main.rs")
+    manifest = '[package]\nname = "driver"\nversion = "0.0.0"\nedition = "2021"\n\n[dependencies]\nreqkey = { path = "reqkey" }\n'
+    (folder / "Cargo.toml").write_text(manifest)
+    environment = {**os.environ, "RUSTFLAGS": "-D warnings"}
+    built = ran("cargo", "build", "-q", "--offline", "--target-dir", room / "target", cwd=folder, env=environment, text=True)
+    count.same("clients/rust is built", built, (0, "", ""))
+    return None if built[0] else room / "target" / "debug" / "driver"
 
 
 def languages(room):
     """The clients that can be tried here, and their examples."""
     example = CLIENTS / "python" / "example_client.py", CLIENTS / "python" / "example_handler.py"
-    yield Language("Python", sys.executable, "-I", "-S", DRIVERS / "driver.py"), *example
+    python = [sys.executable, "-I", "-S", DRIVERS / "driver.py"]
+    yield Language("Python", *python), *example
+    yield Language("Python, asyncio", *python, "aio", any_stream=False), *example
+    for name, driver in {"Go": in_go(room), "Rust": in_rust(room)}.items():
+        if driver is not None:
+            yield Language(name, driver), None, None
     if lacks("clients/c", "gcc"):
         return
     example = [compiled(count, room / name, CLIENTS / "c" / f"{name}.c", *STRICT, "-O2") for name in ["example_client", "example_handler"]]
@@ -294,16 +417,19 @@ def main():
     with tempfile.TemporaryDirectory(prefix="clients-") as folder:
         room = pathlib.Path(folder)
         python_alone(room)
+        asyncio_alone(room)
         for client, ask, handler in languages(room):
             speaks(client, room)
             is_refused(client)
             meets_hostile(client, room)
             spells(client)
+            gets(client)
             fails(client, room)
             for program in there(count):
                 on_daemon(client, program)
                 on_handler(client, program)
-                examples(program, ask, handler)
+                if ask is not None:
+                    examples(program, ask, handler)
     count.end()
 
 

@@ -100,6 +100,10 @@ static int tell(FILE *told, struct reqkey *session, const char *name, const stru
         result = reqkey_read(session, (int32_t)number(w), &bytes);
         if (result >= 0)
             tell_bytes(told, bytes, (size_t)result);
+    } else if (strcmp(name, "get") == 0) {
+        result = reqkey_get(session, w[0].at, w[1].at, strcmp(w[2].at, "-") == 0 ? NULL : w[2].at, &bytes);
+        if (result >= 0)
+            tell_bytes(told, bytes, (size_t)result);
     } else if (strcmp(name, "describe") == 0 || strcmp(name, "callout") == 0) {
         result = name[0] == 'd' ? reqkey_describe(session, (int32_t)number(w), &text) : reqkey_callout(session, &text);
         if (result >= 0)

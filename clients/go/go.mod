@@ -1,0 +1,3 @@
+module reqkey
+
+go 1.19
