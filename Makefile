@@ -14,11 +14,12 @@ PREFIX = /usr/local
 DESTDIR =
 PACKAGES = build
 ZSH_DIR = $(PREFIX)/share/zsh/site-functions
-# the first folder below PREFIX in which this machine's Python looks for modules
-PYTHON_DIR = $(shell python3 -c 'import site, sys; \
+LIB_DIR = $(PREFIX)/lib
+# the first folder below PREFIX in which this system's own Python looks for modules, whatever other ones are on the PATH
+PYTHON_DIR = $(shell $(firstword $(wildcard /usr/bin/python3) python3) -c 'import site, sys; \
 	print(next((it for it in site.getsitepackages() if it.startswith(sys.argv[1])), sys.argv[1] + "python3/dist-packages"))' '$(PREFIX)/lib/')
 
-.PHONY: all kept bench quick check cost walk edits demo soak install uninstall deb completion pictures clean help toolchain
+.PHONY: all kept bench quick check cost walk edits demo soak install uninstall deb release completion pictures clean help toolchain
 
 all: $(addprefix build/,$(PROGRAMS))  ## Prove and build the programs, into build/, by the toolchain's gate; `make check` takes what it has proved
 
@@ -91,14 +92,18 @@ $(BUILT)/libkeyutils.so.1: $(wildcard clients/keyutils/*) clients/c/reqkey.c cli
 $(BUILT)/reqkey-trap: $(wildcard clients/trap/* clients/keyutils/*) clients/c/reqkey.c clients/c/reqkey.h
 	@$(MAKE) --no-print-directory -C clients/trap OUT=$(abspath $(BUILT))
 
+# The client in C, for programs that are linked with it.
+$(BUILT)/libreqkey.so.1 $(BUILT)/libreqkey.a &: $(wildcard clients/c/*)
+	@$(MAKE) --no-print-directory -C clients/c OUT=$(abspath $(BUILT))
+
 # The door for a machine with several users.
 $(BUILT)/reqkey-door: $(wildcard clients/door/*)
 	@$(MAKE) --no-print-directory -C clients/door OUT=$(abspath $(BUILT))
 
 # What is installed beside the programs, and is written in C.
-IN_C = $(BUILT)/libkeyutils.so.1 $(BUILT)/reqkey-trap $(BUILT)/reqkey-door
+IN_C = $(addprefix $(BUILT)/,libkeyutils.so.1 reqkey-trap reqkey-door libreqkey.so.1 libreqkey.a)
 
-INSTALL = BUILT='$(BUILT)' PREFIX='$(PREFIX)' DESTDIR='$(DESTDIR)' ZSH_DIR='$(ZSH_DIR)' PYTHON_DIR='$(PYTHON_DIR)' packaging/install.sh
+INSTALL = BUILT='$(BUILT)' PREFIX='$(PREFIX)' DESTDIR='$(DESTDIR)' ZSH_DIR='$(ZSH_DIR)' LIB_DIR='$(LIB_DIR)' PYTHON_DIR='$(PYTHON_DIR)' packaging/install.sh
 
 install: $(addprefix $(BUILT)/,$(PROGRAMS)) $(IN_C)  ## Install what is built, below PREFIX=/usr/local (docs/INSTALL.md)
 	@$(INSTALL) install
@@ -108,6 +113,12 @@ uninstall:  ## Remove what make install has put there
 
 deb: $(addprefix $(BUILT)/,$(PROGRAMS)) $(IN_C)  ## Make a Debian package of the same, into build/
 	@BUILT='$(BUILT)' PACKAGES='$(PACKAGES)' packaging/debian/build.sh
+
+# Where `make release` puts what.
+RELEASE = build/release
+
+release: $(addprefix $(BUILT)/,$(PROGRAMS)) $(IN_C)  ## Make what is handed out, into build/release/: an archive, the Debian packages, SHA256SUMS
+	@BUILT='$(BUILT)' RELEASE='$(RELEASE)' packaging/release.sh
 
 completion: $(addprefix $(BUILT)/,$(PROGRAMS)) $(BUILT)/reqkey-trap $(BUILT)/reqkey-door  ## Write what completes words in a shell, as make install has it, into build/completion/
 	@tools/completion.py $(BUILT) build/completion

@@ -3,6 +3,7 @@
 examples/unproved.py, and the commands that README.md, docs/RECORD.md and docs/TUTORIAL.md show."""
 import os
 import pathlib
+import re
 import signal
 import subprocess
 import sys
@@ -218,7 +219,8 @@ def shown_runs(document):
 
 
 class Shell:
-    """A shell in a folder of its own, which has build/ and clients/, and stands in the place of /tmp. It is ended where its commands take LIMIT seconds."""
+    """A shell in a folder of its own, which has build/ and clients/, and stands in the place of /tmp, for mktemp(1) too, whose folders are shown by its
+    template. It is ended where its commands take LIMIT seconds."""
 
     def __init__(self, room, program):
         self.room = room
@@ -227,7 +229,8 @@ class Shell:
         (room / "build" / "reqkeyctl").symlink_to(client_of(program))
         (room / "clients").symlink_to(top / "clients")
         streams = {"stdin": subprocess.PIPE, "stdout": subprocess.PIPE, "stderr": subprocess.STDOUT}
-        self.process = subprocess.Popen(["bash", "--norc"], cwd=room, text=True, start_new_session=True, **streams)
+        around = {**os.environ, "TMPDIR": str(room)}
+        self.process = subprocess.Popen(["bash", "--norc"], cwd=room, env=around, text=True, start_new_session=True, **streams)
         self.guard = threading.Timer(LIMIT, os.killpg, (self.process.pid, signal.SIGKILL))
         self.guard.start()
 
@@ -249,7 +252,8 @@ class Shell:
             if not (line := self.process.stdout.readline()):
                 return [*lines, "(the shell has ended)"]
             ended |= line == "END\n"
-            lines += [line.rstrip("\n").replace(f"{self.room}/", "/tmp/")] if line != "END\n" else []
+            shown = re.sub(r"^/tmp/tmp\.\w{10}/", "/tmp/tmp.XXXXXXXXXX/", line.rstrip("\n").replace(f"{self.room}/", "/tmp/"))
+            lines += [shown] if line != "END\n" else []
         return lines
 
 

@@ -21,20 +21,26 @@ count = Counted()
 PATH = {"PATH": f"{pathlib.Path(sys.executable).parent}:/usr/local/bin:/usr/bin:/bin:/usr/sbin:/sbin", "LC_ALL": "C.UTF-8"}
 
 # What is installed below a PREFIX: programs to be run, and all else to be read. The module of Python and the functions of zsh have their place by options.
-PYTHON, ZSH, DOC = "lib/python3/dist-packages", "share/zsh/site-functions", "share/doc/reqkeyd"
+PYTHON, ZSH, DOC, LIB = "lib/python3/dist-packages", "share/zsh/site-functions", "share/doc/reqkeyd", "lib"
+PROGRAMS = ["reqkeyd", "reqkeyctl", "reqkey-trap", "reqkey-door"]
 OF_A_PROGRAM = ["bin/{}", "share/bash-completion/completions/{}", "share/fish/vendor_completions.d/{}.fish", f"{ZSH}/_{{}}"]
 DOOR_UNITS, BEHIND = ["reqkey-door.service", "reqkey-door.socket"], "reqkeyd-behind-door.conf"
 NAMES = [
-    *(place.format(name) for name in ["reqkeyd", "reqkeyctl", "reqkey-trap", "reqkey-door"] for place in OF_A_PROGRAM),
+    *(place.format(name) for name in PROGRAMS for place in OF_A_PROGRAM),
     *(f"lib/systemd/system/{name}" for name in ["reqkeyd.service", "reqkeyd-sweep@.service", "reqkeyd-sweep@.timer", *DOOR_UNITS]),
     *(f"lib/systemd/user/{name}" for name in ["reqkeyd.service", "reqkeyd-sweep.service", "reqkeyd-sweep.timer"]),
-    *(f"share/man/{page}" for page in ["man1/reqkey-trap.1", "man1/reqkeyctl.1", "man5/reqkeyd.conf.5", "man8/reqkey-door.8", "man8/reqkeyd.8"]),
+    *(f"share/man/man{page[-1]}/{page}" for page in ["reqkey-trap.1", "reqkeyctl.1", "reqkey.3", "reqkeyd.conf.5", "reqkey-door.8", "reqkeyd.8"]),
     *(f"{DOC}/{name}" for name in ["LICENSE-APACHE", "LICENSE-MIT", "copyright", "CHANGELOG.md", "README.md", "SECURITY.md"]),
     *(f"{DOC}/{path.relative_to(top)}" for path in [*top.glob("docs/*.md"), *top.glob("docs/pictures/*")]),
     *(f"{DOC}/examples/{name}" for name in ["example_client.c", "example_client.py", "example_handler.c", "example_handler.py", "reqkeyd.conf", BEHIND]),
-    "include/reqkey.h", f"{PYTHON}/reqkey.py", "lib/reqkeyd/libkeyutils.so.1", "share/reqkeyd/reqkey.c",
+    *(f"lib/reqkeyd/handlers/{path.name}" for path in top.glob("handlers/*")),
+    *(f"{PYTHON}/reqkey/{path.name}" for path in top.glob("clients/python/reqkey/*") if path.is_file()),
+    *(f"share/reqkeyd/{path}" for path in ["go/go.mod", "go/reqkey.go", "rust/Cargo.toml", "rust/src/lib.rs"]),
+    "include/reqkey.h", "lib/reqkeyd/libkeyutils.so.1", "share/reqkeyd/reqkey.c",
+    *(f"lib/{name}" for name in ["libreqkey.a", "libreqkey.so", "libreqkey.so.1", "pkgconfig/reqkey.pc"]),
 ]
-FILES = {name: 0o755 if name.startswith("bin/") else 0o644 for name in NAMES}
+SCRIPTS = {f"lib/reqkeyd/handlers/{path.name}" for path in top.glob("handlers/*") if path.suffix != ".sh"}
+FILES = {name: 0o755 if name.startswith("bin/") or name in SCRIPTS else 0o644 for name in NAMES}
 
 # A program that makes the system call itself.
 ADDS = "import ctypes, os; print(ctypes.CDLL(None).syscall({'x86_64': 248, 'aarch64': 217}[os.uname().machine], b'user', b'n', b'v', 1, -3) > 0)"
@@ -81,7 +87,20 @@ def serves(prefix, conf):
         return key[0], payload, trapped, library, daemon.end()
 
 
-def used(name, prefix, python=PYTHON):
+def linked(name, room, source, prefix, configs):
+    """A program is linked with the library, shared and static, as pkg-config says."""
+    if lacks(f"{name}: reqkey.pc", "pkg-config"):
+        return
+    environment = {**PATH, "PKG_CONFIG_PATH": str(configs)}
+    flags = run("pkg-config", f"--define-variable=prefix={prefix}/", "--cflags", "--libs", "reqkey", env=environment)[1].split()
+    folder = configs.parent
+    for kind, words in {"shared": [*flags, f"-Wl,-rpath,{folder}"], "static": [it.replace("-lreqkey", "-l:libreqkey.a") for it in flags]}.items():
+        count.same(f"{name}: the {kind} library", run("gcc", "-o", f"{room}/{kind}", source, *words), (0, "", ""))
+        needs = "libreqkey.so.1" in run("ldd", f"{room}/{kind}")[1]
+        count.same(f"{name}: the {kind} library runs", (run(f"{room}/{kind}")[0], needs), (2, kind == "shared"))
+
+
+def used(name, prefix, library_folder=LIB, python=PYTHON):
     """What was installed is tried where it is: the programs, the clients, and what completes words."""
     for program in ["reqkeyd", "reqkeyctl"]:
         count.same(f"{name}: {program}", run(prefix / "bin" / program, "--version"), (0, f"{program} {version()}\n", ""))
@@ -92,6 +111,8 @@ def used(name, prefix, python=PYTHON):
     served = serves(prefix, examples / "reqkeyd.conf")
     wanted = 0, (0, "hello\n", ""), (0, "True\n", ""), (0, f"{library}\n", ""), (0, [])
     count.same(f"{name}: the example configuration, and the library of a run", served, wanted)
+    module = run(sys.executable, "-B", "-c", "import reqkey.aio; print(reqkey.aio.Session.__module__)", env={**PATH, "PYTHONPATH": str(prefix / python)})
+    count.same(f"{name}: the module of Python", module, (0, "reqkey.aio\n", ""))
     count.same(f"{name}: the door", lets_in(prefix), ("reqkey-door: ready\n", [(0, ""), (1, "errno 13\n")], 0))
     usage = run(sys.executable, "-B", examples / "example_client.py", env={**PATH, "PYTHONPATH": str(prefix / python)})
     count.same(f"{name}: the client in Python", usage, (2, "", "usage: example_client.py SOCKET TYPE DESCRIPTION [CALLOUT]\n"))
@@ -100,12 +121,13 @@ def used(name, prefix, python=PYTHON):
         sources = [examples / "example_client.c", prefix / "share" / "reqkeyd" / "reqkey.c"]
         count.same(f"{name}: the client in C", run("gcc", "-I", prefix / "include", "-o", client, *sources), (0, "", ""))
         count.same(f"{name}: the client in C runs", run(client)[0], 2)
+        linked(name, room, examples / "example_client.c", prefix, prefix / library_folder / "pkgconfig")
     count.same(f"{name}: keyutils' library", run(sys.executable, "-c", f"import ctypes; ctypes.CDLL('{library}').add_key"), (0, "", ""))
 
 
 def texts(root):
     """The manual pages, units and examples below a folder: the name of each, and what it says."""
-    kinds = ["share/man/*/*.gz", "lib/systemd/*/*", "share/doc/reqkeyd/examples/*", "share/bash-completion/completions/*"]
+    kinds = ["share/man/*/*.gz", "lib/systemd/*/*", "lib/reqkeyd/handlers/*", "share/doc/reqkeyd/examples/*", "share/bash-completion/completions/*"]
     for path in [path for kind in kinds for path in root.glob(f"usr/{kind}")]:
         data = path.read_bytes()
         yield path.name, (gzip.decompress(data) if path.suffix == ".gz" else data).decode()
@@ -209,6 +231,16 @@ def by_make(ours, room):
         count.same(f"without {name}", (status, (room / "nothing").exists()), (2, False))
 
 
+MULTIARCH = f"lib/{run('gcc', '-print-multiarch')[1].strip()}" if shutil.which("gcc") else LIB
+CHANGES = f"usr/{DOC}/changelog.gz"
+
+
+def packaged(name):
+    """Where the package has what is `name` below a prefix."""
+    place = f"{MULTIARCH}/{name.removeprefix('lib/')}" if name.startswith(("lib/libreqkey", "lib/pkgconfig")) else name
+    return f"usr/{place}".replace(ZSH, "share/zsh/vendor-completions") + (".gz" if "/man/" in name else "")
+
+
 def by_package(ours, room):
     """make deb, and what its package has; its programs run from where it was unpacked."""
     if lacks("the package", "dpkg-deb"):
@@ -228,8 +260,7 @@ def by_package(ours, room):
 
     root = room / "unpacked"
     count.same("unpacking", run("dpkg-deb", "--extract", package, root), (0, "", ""))
-    wanted = {f"usr/{name}".replace(ZSH, "share/zsh/vendor-completions") + (".gz" if "/man/" in name else ""): mode for name, mode in FILES.items()}
-    count.same("files of the package", files(root), wanted)
+    count.same("files of the package", files(root), {packaged(name): mode for name, mode in FILES.items() if "LICENSE" not in name} | {CHANGES: 0o644})
     page = root / "usr" / "share" / "man" / "man8" / "reqkeyd.8.gz"
     written = (top / "man" / "reqkeyd.8").read_text()
     count.same("manual page", gzip.decompress(page.read_bytes()).decode(), written.replace("/usr/local/", "/usr/"))
@@ -238,9 +269,11 @@ def by_package(ours, room):
     count.same("programs of its units", len(commands), 2)
     count.same("control of the package", run("dpkg-deb", "--control", package, room / "control"), (0, "", ""))
     sums = run("md5sum", "--check", "--quiet", room / "control" / "md5sums", cwd=root)
-    count.same("sums", (sums, len((room / "control" / "md5sums").read_text().splitlines())), ((0, "", ""), len(FILES)))
-    count.same("nothing is run", sorted(it.name for it in (room / "control").iterdir()), ["control", "md5sums"])
-    used("package", root / "usr")
+    summed = [path for path in root.rglob("*") if path.is_file() and not path.is_symlink()]
+    count.same("sums", (sums, len((room / "control" / "md5sums").read_text().splitlines())), ((0, "", ""), len(summed)))
+    scripts = ["control", "md5sums", "postrm", "prerm", "shlibs", "triggers"]
+    count.same("nothing is run at its start", sorted(it.name for it in (room / "control").iterdir()), scripts)
+    used("package", root / "usr", MULTIARCH)
 
     first = package.read_bytes()
     package.unlink()

@@ -14,6 +14,7 @@ sys.path.insert(0, str(top / "tools"))
 from program_help import option, part, said, subcommands
 
 count = Counted()
+HEADER = top / "clients" / "c" / "reqkey.h"
 PAGES = ["reqkeyd.8", "reqkeyctl.1", "reqkey-trap.1", "reqkey-door.8", "reqkeyd.conf.5"]
 
 
@@ -191,11 +192,29 @@ def alike(page):
         count.same(f"faults in {page}", (status, errors), (0, ""))
 
 
+def of_header():
+    """reqkey(3), which is made of reqkey.h: each line of a declaration and each sentence of a comment are in it once, and groff finds no fault."""
+    made = ran(top / "tools" / "header_manual.py", HEADER, text=True)
+    count.same("making reqkey.3", (made[0], made[2]), (0, ""))
+    page = " ".join(" ".join(spoken(line) for line in made[1].split("\n")).split()).replace("\\e", "\\")
+    header = HEADER.read_text()
+    calls = re.findall(r"^[a-z].*?\breqkey_\w+\(.*?\);$", header, re.MULTILINE)
+    count.same("calls of reqkey.h in reqkey.3", ([it for it in calls if page.count(" ".join(it.split())) != 1], len(calls) > 20), ([], True))
+    texts = [" ".join(re.sub(r"^ ?\*/?", "", line).strip() for line in it.split("\n")) for it in re.findall(r"^/\*(.*?)\*/", header, re.DOTALL | re.MULTILINE)]
+    said = [sentence for text in texts for sentence in re.split(r"(?<=[.:]) +", " ".join(text.split())) if len(sentence) > 40 and "(" not in sentence]
+    lacking = [it for it in said if it.lstrip("- ") not in page and not it.startswith("Requests keys")]
+    count.same("sentences of reqkey.h in reqkey.3", (lacking, len(said) > 30), ([], True))
+    if shutil.which("groff"):
+        status, _, errors = ran("groff", "-ww", "-man", "-Tutf8", "-b", input=made[1], text=True)
+        count.same("faults in reqkey.3", (status, errors), (0, ""))
+
+
 if not shutil.which("groff"):
     print("faults in the manual pages: not looked for, there is no groff")
 for page in PAGES:
     alike(page)
 of_configuration()
+of_header()
 of_trap()
 of_door()
 of_warnings()

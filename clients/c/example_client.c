@@ -1,5 +1,7 @@
 /*
- * Requests a key of the daemon and prints its payload; where there is none, the callout is what its handler gets.
+ * Prints the payload of a key of the daemon; where there is none, the callout is what its handler gets.
+ *
+ * reqkey_get requests it into the user's ring, so that the next run finds it there: a session ring ends with its session, and each run is one.
  *
  * usage: example_client SOCKET TYPE DESCRIPTION [CALLOUT]
  */
@@ -21,12 +23,9 @@ static int show(struct reqkey *session, char **words)
     int result = reqkey_hello(session, getuid(), getgid(), 0, 0, NULL);
     if (result < 0)
         return failed("hello", result);
-    int key = reqkey_request(session, words[0], words[1], words[2], REQKEY_NO_RING);
-    if (key < 0)
-        return failed("request", key);
-    int length = reqkey_read(session, key, &payload);
+    int length = reqkey_get(session, words[0], words[1], words[2], &payload);
     if (length < 0)
-        return failed("read", length);
+        return failed("get", length);
     fwrite(payload, 1, (size_t)length, stdout);
     putchar('\n');
     return 0;

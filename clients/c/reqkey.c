@@ -489,6 +489,19 @@ int reqkey_read(struct reqkey *session, int32_t key, const void **payload)
     return ask_bytes(session, payload);
 }
 
+/* Requests a key and reads it. */
+static int get(struct reqkey *session, const char *type, const char *description, const char *callout, const void **payload)
+{
+    int key = reqkey_request(session, type, description, callout, REQKEY_USER_RING);
+    return key < 0 ? key : reqkey_read(session, key, payload);
+}
+
+int reqkey_get(struct reqkey *session, const char *type, const char *description, const char *callout, const void **payload)
+{
+    int result = get(session, type, description, callout, payload);
+    return result == -REQKEY_EKEYEXPIRED ? get(session, type, description, callout, payload) : result;
+}
+
 int reqkey_describe(struct reqkey *session, int32_t key, const char **text)
 {
     begin_on_key(session, DESCRIBE, key);

@@ -1,6 +1,5 @@
 /*
- * Asks a daemon reqkeyd for keys, and makes keys for it: all sixteen asks of docs/PROTOCOL.md. This file is the manual; the code is reqkey.c, which needs
- * the C library and POSIX alone.
+ * Requests keys of a daemon reqkeyd, and makes keys for it. These are all sixteen requests of docs/PROTOCOL.md, over the C library and POSIX alone.
  *
  * A client connects to the daemon's socket and says for whom it acts:
  *
@@ -28,23 +27,23 @@
  *     if (session == NULL || reqkey_assume(session, key) < 0 || reqkey_instantiate(session, key, "a payload", 9, REQKEY_NO_RING) < 0)
  *         return 1;
  *
- * RESULTS. An ask gives 0 or more where it was carried out. Anything else is the negative number of an error, as -REQKEY_ENOKEY; what it points at is not
+ * RESULTS. A request returns 0 or more if it was carried out. Anything else is the negative number of an error, as -REQKEY_ENOKEY; what it points at is not
  * written then.
  *
  * - The errors up to 129 are the daemon's refusals. Nothing has changed (but see ENOMEM in docs/PROTOCOL.md), and the session goes on.
  * - REQKEY_UNSPELT: no frame can hold the arguments, since a text or payload has more than 65,535 bytes, or all together more than 65,536, or flags are above
  *   255. Nothing was sent, and the session goes on.
  * - REQKEY_ENDED: the connection has ended before the reply came whole.
- * - REQKEY_MALFORMED: what came is no reply to this ask.
+ * - REQKEY_MALFORMED: what came is no reply to this request.
  * - REQKEY_SYSTEM: a read or write has failed, and errno says how.
  *
- * After one of the last three it isn't known any more which reply belongs to which ask, so the session is over: each further ask gives
+ * After one of the last three it isn't known any more which reply belongs to which request, so the session is over: each further one returns
  * REQKEY_ENDED.
  *
- * TEXTS are UTF-8 and end with a zero byte. BYTES that an ask gives stand in the session until its next ask is answered, so that they may be handed to that
- * one; a zero byte is behind them.
+ * TEXTS are UTF-8 and end with a zero byte. BYTES that a request returns stand in the session until its next one is answered, so that they may be handed to
+ * that one; a zero byte is behind them.
  *
- * An ask WAITS as long as a handler takes, and no signal ends that. What can't wait has a session of its own.
+ * A request WAITS as long as a handler takes, and no signal ends that. What can't wait has a session of its own.
  *
  * A session is for one THREAD at a time; different ones share nothing. After fork(2) one of the two processes alone may go on with it.
  *
@@ -60,7 +59,7 @@
 extern "C" {
 #endif
 
-/* Why an ask was not carried out. The refusals have Linux's numbers, on every system. */
+/* Why a request was not carried out. The refusals have Linux's numbers, on every system. */
 enum {
     REQKEY_EPERM = 1,
     REQKEY_ENOENT = 2,
@@ -81,7 +80,7 @@ enum {
     REQKEY_SYSTEM,
 };
 
-/* The rings that an ask can name without their serials. */
+/* The rings that a request can name without their serials. */
 enum {
     REQKEY_NO_RING = 0,
     REQKEY_THREAD_RING = -1,
@@ -179,6 +178,12 @@ int reqkey_reject(struct reqkey *session, int32_t key, uint32_t seconds, uint32_
 int reqkey_read(struct reqkey *session, int32_t key, const void **payload);
 
 /*
+ * The payload of the key of this name: its length, and where it stands. This is reqkey_request into the user ring, and reqkey_read. A key may expire between
+ * them, so after EKEYEXPIRED both are sent once more. As these are several requests, no text may stand in the session.
+ */
+int reqkey_get(struct reqkey *session, const char *type, const char *description, const char *callout, const void **payload);
+
+/*
  * `type;uid;state;description` of a key, as "user;1000;valid;mail:joe": its length, and where it stands. The states are valid, negative, building, expired
  * and revoked.
  */
@@ -201,7 +206,7 @@ int reqkey_clear(struct reqkey *session, int32_t ring);
 
 /*
  * Sets where keys go that are requested into no ring: the first ring there is from this one on, in the order requestor, thread, process, session, user. The
- * result is the setting before; REQKEY_KEEP only asks for it.
+ * result is the setting before; REQKEY_KEEP only reads it.
  */
 int reqkey_default(struct reqkey *session, int32_t setting);
 
