@@ -82,6 +82,7 @@ def is_whole(made):
 made = picture.made()
 is_whole(made)
 count.same("files of docs/pictures", {path.name: path.read_text() for path in (top / "docs" / "pictures").iterdir()}, made)
+count.same("where request.svg is shown", "(docs/pictures/request.svg)" in "".join((top / "README.md").read_text().splitlines()[:10]), True)
 shown = {"parts.svg": architecture, "threads.svg": architecture, "crates.svg": architecture, "key.svg": machine, "construction.svg": machine}
 for name, document in shown.items():
     count.same(f"where {name} is shown", f"(pictures/{name})" in document, True)
@@ -109,6 +110,13 @@ def below(heads):
 
 def number(figure):
     return float(figure.replace(",", ""))
+
+
+# README.md, "Fast": requests a second of one run, in thousands.
+rates = {(row[0], row[1].partition(",")[0]): number(row[2]) for row in below("| connections | program | asks/s |")}
+fast = re.search(r"\*\*Fast\.\*\*.*?\(", (top / "README.md").read_text(), re.DOTALL)[0]
+measured = [f"{rates[clients, program] / 1000:.0f}" for clients in ["1", "64"] for program in ["Rattle", "redis-server", "ssh-agent"]]
+count.same("README.md: Fast", re.findall(r"(\d+),000", fast), measured)
 
 
 def asked():

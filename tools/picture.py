@@ -8,7 +8,7 @@ import pathlib
 import sys
 from typing import NamedTuple
 
-from drawing import BLUE, DARK, GREY, INK, LINE, PAPER, SAND, Drawing
+from drawing import AMBER, BLUE, DARK, GREY, INK, LINE, PAPER, SAND, Drawing
 from layered import Rows, layers_of, reaches, reduced
 from parts import parts_picture, threads_picture
 
@@ -146,9 +146,36 @@ def states_picture(table):
     return drawing.done()
 
 
+# ---- what README.md shows first
+
+
+def request_picture():
+    """Two programs that request one key, the daemon, and the one handler that makes it."""
+    drawing = Drawing(900, 214, "Two programs request one key; the daemon starts one handler, and both get its result")
+    for y, name in [(24, "a program"), (142, "another program")]:
+        drawing.box(24, y, 150, 48, GREY)
+        drawing.text(99, y + 29, name)
+    drawing.box(356, 52, 190, 110, BLUE, INK)
+    for y, (words, bold) in zip([80, 106, 126, 146], [("reqkeyd", True), ("the key web,", False), ("under construction,", False), ("then with its payload", False)]):
+        drawing.text(451, y, words, bold=bold)
+    drawing.box(726, 78, 150, 58, SAND)
+    for y, words in [(102, "the handler, which"), (122, "logs in somewhere")]:
+        drawing.text(801, y, words)
+    for path in ["M174 40C250 40 270 76 346 76", "M174 158C250 158 270 118 346 118", "M546 88H716"]:
+        drawing.line(path, tip=True)
+    for path in ["M356 92C270 92 250 60 184 60", "M356 136C270 136 250 178 184 178", "M726 126H556"]:
+        drawing.line(path, tip=True, stroke=AMBER)
+    told = {(186, 30): "1 requests web: there is none", (570, 78): "2 is started once", (570, 148): "3 a token for an hour",
+            (186, 204): "4 both get the same key, or the same error"}
+    for (x, y), words in told.items():
+        drawing.text(x, y, words, anchor="start", size=12)
+    return drawing.done()
+
+
 def made():
     """Each file, by its name."""
     return {
+        "request.svg": request_picture(),
         "parts.svg": parts_picture(crates.uses()),
         "threads.svg": threads_picture(),
         "crates.svg": crates_picture(),
