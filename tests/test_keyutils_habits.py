@@ -3,6 +3,7 @@
 threads, calls that are left by siglongjmp, descriptors that a program closes, another user, and a daemon that is started again."""
 import os
 import pathlib
+import re
 import signal
 import subprocess
 import tempfile
@@ -12,6 +13,7 @@ import protocol_peer as peer
 from counted import Counted
 from daemon import Daemon, until
 from keyutils_library import ENVIRONMENT, UID, Programs, everywhere
+from packages import has
 from programs import LIMIT, ran, started, top
 
 count = Counted()
@@ -211,6 +213,17 @@ def restarted(keys):
         keys.session = keys.holder.rings[2]
 
 
+def costs(keys):
+    """The system calls of a call: geteuid, getegid, fstat and poll, to see that the connection is the right one; and sendto and read."""
+    if not has("the system calls of a call", ["strace"], ["strace"]):
+        return
+    trace = keys.daemon.room / "trace"
+    told = keys.run("strace", "-f", "-o", trace, "-E", f"LD_PRELOAD={keys.library}", keys.daemon.room / "habits", "reads", LD_PRELOAD=None)
+    calls = trace.read_text().split("getppid(")
+    count.same("a program that reads", (told, len(calls)), ((0, "", ""), 3))
+    count.same("the system calls of ten reads", len(re.findall("^[0-9]+ +[a-z]", calls[1], re.MULTILINE)), 10 * 6)
+
+
 def tries(program, library, *before):
     preloaded = ":".join(map(str, [*before, library]))
     lines = LINES.replace("%plain", f"/usr/bin/env REQKEYD_STREAMS=0,1 LD_PRELOAD={preloaded}")
@@ -230,6 +243,8 @@ def tries(program, library, *before):
         habits(keys)
         connects(keys)
         restarted(keys)
+        if not before:
+            costs(keys)
 
 
 for program, library, before in everywhere(count):

@@ -28,9 +28,9 @@ struct reqkey {
     bool socket;    /* what it writes to is one */
     bool over;
     bool unspelt;   /* the ask has no place in its frame */
-    size_t asked, replied;
-    unsigned char frame[HEAD + BODY]; /* of the ask, of which `asked` bytes are there */
-    unsigned char reply[BODY + 1];    /* the body of the reply, of `replied` bytes, and a zero byte */
+    size_t asked, replied, early;
+    unsigned char frame[HEAD + BODY];     /* of the ask, of which `asked` bytes are there */
+    unsigned char reply[HEAD + BODY + 1]; /* the frame of the reply, whose body has `replied` bytes, a zero byte, and `early` bytes of the next one */
 };
 
 /* ---- errors */
@@ -106,7 +106,7 @@ struct reqkey *reqkey_open(int input, int output)
     session->connected = false;
     session->socket = is_socket(output);
     session->over = session->unspelt = false;
-    session->asked = session->replied = 0;
+    session->asked = session->replied = session->early = 0;
     return session;
 }
 
@@ -291,20 +291,19 @@ static ssize_t read_some(struct reqkey *session, unsigned char *bytes, size_t le
     return done;
 }
 
-static int read_all(struct reqkey *session, unsigned char *bytes, size_t length)
+/* Reads until so many bytes of a reply are there, of which `have` are: how many there are then, since one read takes all that has come; or an error. */
+static ssize_t read_up_to(struct reqkey *session, size_t have, size_t least)
 {
-    while (length > 0) {
-        ssize_t done = read_some(session, bytes, length);
+    while (have < least) {
+        ssize_t done = read_some(session, session->reply + have, HEAD + BODY - have);
         if (done == 0)
             return over(session, REQKEY_ENDED);
         if (done < 0 && errno != EINTR)
             return over(session, REQKEY_SYSTEM);
-        if (done > 0) {
-            bytes += done;
-            length -= (size_t)done;
-        }
+        if (done > 0)
+            have += (size_t)done;
     }
-    return 0;
+    return (ssize_t)have;
 }
 
 static uint32_t number_at(const unsigned char *at)
@@ -312,22 +311,39 @@ static uint32_t number_at(const unsigned char *at)
     return (uint32_t)at[0] << 24 | (uint32_t)at[1] << 16 | (uint32_t)at[2] << 8 | at[3];
 }
 
-/* Writes the frame of the ask, and reads the body of its reply. */
-static int exchange(struct reqkey *session)
+static const unsigned char *body_of(const struct reqkey *session)
 {
-    unsigned char head[HEAD];
-    write_number(session->frame, (uint32_t)(session->asked - HEAD));
-    int result = write_all(session, session->frame, session->asked);
-    if (result == 0)
-        result = read_all(session, head, HEAD);
-    if (result < 0)
-        return result;
-    uint32_t length = number_at(head);
+    return session->reply + HEAD;
+}
+
+/* Reads a reply whole, behind what has come of it already. */
+static int read_reply(struct reqkey *session)
+{
+    memmove(session->reply, body_of(session) + session->replied + 1, session->early);
+    ssize_t have = read_up_to(session, session->early, HEAD);
+    session->early = session->replied = 0;
+    if (have < 0)
+        return (int)have;
+    uint32_t length = number_at(session->reply);
     if (length == 0 || length > BODY)
         return over(session, REQKEY_MALFORMED);
+    have = read_up_to(session, (size_t)have, HEAD + length);
+    if (have < 0)
+        return (int)have;
+    unsigned char *end = session->reply + HEAD + length;
     session->replied = length;
-    session->reply[length] = 0;
-    return read_all(session, session->reply, length);
+    session->early = (size_t)have - HEAD - length;
+    memmove(end + 1, end, session->early);
+    *end = 0;
+    return 0;
+}
+
+/* Writes the frame of the ask, and reads its reply. */
+static int exchange(struct reqkey *session)
+{
+    write_number(session->frame, (uint32_t)(session->asked - HEAD));
+    int result = write_all(session, session->frame, session->asked);
+    return result < 0 ? result : read_reply(session);
 }
 
 /* ---- replies */
@@ -342,7 +358,7 @@ static int ask(struct reqkey *session, enum reply kind)
     int result = exchange(session);
     if (result < 0)
         return result;
-    const unsigned char *body = session->reply;
+    const unsigned char *body = body_of(session);
     if (body[0] == (unsigned char)kind)
         return 0;
     if (body[0] == REFUSED && session->replied == 2 && place_of(-body[1]) >= 0)
@@ -358,7 +374,7 @@ static int ask_number(struct reqkey *session, uint32_t least, uint32_t greatest)
         return result;
     if (session->replied != 1 + 4)
         return over(session, REQKEY_MALFORMED);
-    uint32_t value = number_at(session->reply + 1);
+    uint32_t value = number_at(body_of(session) + 1);
     return least <= value && value <= greatest ? (int)value : over(session, REQKEY_MALFORMED);
 }
 
@@ -377,7 +393,7 @@ static int ask_bytes(struct reqkey *session, const void **bytes)
     int result = ask(session, BYTES);
     if (result < 0)
         return result;
-    const unsigned char *body = session->reply;
+    const unsigned char *body = body_of(session);
     if (session->replied < 3 || ((size_t)body[1] << 8 | body[2]) != session->replied - 3)
         return over(session, REQKEY_MALFORMED);
     *bytes = body + 3;
@@ -408,6 +424,7 @@ static int take_over(struct reqkey *session)
         return over(session, REQKEY_SYSTEM);
     session->door = session->input;
     session->input = session->output = handed;
+    session->early = 0; /* which would be of the door */
     return 0;
 }
 
@@ -434,7 +451,7 @@ int reqkey_hello(struct reqkey *session, uint32_t uid, uint32_t gid, unsigned fl
         result = take_over(session);
     if (result < 0)
         return leave_handed(session, result);
-    const unsigned char *at = session->reply + 1;
+    const unsigned char *at = body_of(session) + 1;
     if (rings != NULL)
         *rings = (struct reqkey_rings){number_at(at), number_at(at + 4), number_at(at + 8), number_at(at + 12)};
     return 0;

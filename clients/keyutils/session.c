@@ -11,6 +11,7 @@
 #include <signal.h>
 #include <stdio.h>
 #include <stdlib.h>
+#include <sys/mman.h>
 #include <sys/socket.h>
 #include <sys/stat.h>
 #include <time.h>
@@ -136,6 +137,11 @@ static void end(struct held *held)
         reqkey_forget(was.session);
 }
 
+/* A page that a child finds empty, however it was forked (MADV_WIPEONFORK, madvise(2)): not empty says that the connection is this process'. Or NULL. */
+static char *page;
+
+enum { PAGE = 4096 };
+
 /* A child has no connection yet. In a process namespace of its own it may have its parent's number. */
 static void forked(void)
 {
@@ -144,7 +150,16 @@ static void forked(void)
 
 __attribute__((constructor)) static void loaded(void)
 {
+    void *at = mmap(NULL, PAGE, PROT_READ | PROT_WRITE, MAP_PRIVATE | MAP_ANONYMOUS, -1, 0);
     pthread_atfork(NULL, NULL, forked);
+    if (at != MAP_FAILED && madvise(at, PAGE, MADV_WIPEONFORK) == 0)
+        page = at;
+}
+
+/* Without a system call where there is such a page. */
+static bool is_owner(void)
+{
+    return page != NULL ? *page != 0 : own.owner == getpid();
 }
 
 /*
@@ -168,6 +183,8 @@ static bool is_now(struct reqkey *session, const struct reqkey_rings *rings)
     own.held = (struct held){session, file_of(reqkey_descriptor(session)), file_of(reqkey_door(session))};
     own.rings = *rings;
     own.owner = getpid();
+    if (page != NULL)
+        *page = 1;
     own.uid = geteuid();
     own.gid = getegid();
     own.daemon = connection_daemon(session);
@@ -196,7 +213,7 @@ static bool takes_place(struct reqkey *session, const struct reqkey_rings *rings
 static bool is_connected(void)
 {
     struct reqkey_rings rings = {0, 0, 0, 0};
-    bool right = own.held.session != NULL && own.owner == getpid() && is_same_user() && is_mine(&own.held) && !connection_has_ended(own.held.session);
+    bool right = own.held.session != NULL && is_owner() && is_same_user() && is_mine(&own.held) && !connection_has_ended(own.held.session);
     if (right && own.calls++ < CALLS)
         return true;
     struct reqkey *next = next_client(&rings);
@@ -287,11 +304,19 @@ static void set_aside(void)
     own.held.session = NULL; /* without a place for it, it stays in memory */
 }
 
+static bool has_aside(void)
+{
+    bool any = false;
+    for (size_t i = 0; i < sizeof aside / sizeof *aside; i++)
+        any |= aside[i].held.session != NULL;
+    return any;
+}
+
 /* Ends the sessions of this thread whose functions were left: the stack is back at where these began, or before. Else a signal's function may be calling. */
 static void end_aside(const char *frame)
 {
     stack_t stack = {.ss_flags = SS_ONSTACK};
-    if (sigaltstack(NULL, &stack) < 0 || (stack.ss_flags & SS_ONSTACK) != 0)
+    if (!has_aside() || sigaltstack(NULL, &stack) < 0 || (stack.ss_flags & SS_ONSTACK) != 0)
         return;
     for (size_t i = 0; i < sizeof aside / sizeof *aside; i++)
         if (aside[i].held.session != NULL && aside[i].thread == gettid() && frame >= aside[i].frame)

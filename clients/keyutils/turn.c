@@ -7,20 +7,27 @@
 #include <sys/syscall.h>
 #include <unistd.h>
 
+enum { WAITED_FOR = 1 << 30 }; /* beside a thread's number: another thread may sleep */
+
 /* The thread that has the turn, or 0. It is taken and marked in one step, so that a signal comes before or after that. */
 static int holder;
 
 static __thread int cancelling; /* whether this thread could be cancelled before it took the turn */
 
+static __thread int number; /* of this thread, once it is known */
+
 static int this_thread(void)
 {
-    return (int)syscall(SYS_gettid);
+    if (number == 0)
+        number = (int)syscall(SYS_gettid);
+    return number;
 }
 
 /* The thread that had it may be one of the parent. */
 static void renew(void)
 {
     holder = 0;
+    number = 0;
 }
 
 __attribute__((constructor)) static void loaded(void)
@@ -38,15 +45,16 @@ enum turn turn_take(void)
             cancelling = before;
             return TURN_TAKEN;
         }
-        if (other == mine)
+        if ((other & ~WAITED_FOR) == mine)
             return TURN_LEFT;
-        syscall(SYS_futex, &holder, FUTEX_WAIT_PRIVATE, other, NULL, NULL, 0);
+        if ((other & WAITED_FOR) != 0 || __atomic_compare_exchange_n(&holder, &other, other | WAITED_FOR, false, __ATOMIC_RELAXED, __ATOMIC_RELAXED))
+            syscall(SYS_futex, &holder, FUTEX_WAIT_PRIVATE, other | WAITED_FOR, NULL, NULL, 0);
     }
 }
 
 bool turn_is_mine(void)
 {
-    return __atomic_load_n(&holder, __ATOMIC_RELAXED) == this_thread();
+    return (__atomic_load_n(&holder, __ATOMIC_RELAXED) & ~WAITED_FOR) == this_thread();
 }
 
 void turn_give(void)
@@ -54,8 +62,8 @@ void turn_give(void)
     if (!turn_is_mine())
         return;
     int before = cancelling;
-    __atomic_store_n(&holder, 0, __ATOMIC_RELEASE);
     /* all of them, since one that is woken may be led away by a signal before it takes the turn */
-    syscall(SYS_futex, &holder, FUTEX_WAKE_PRIVATE, INT_MAX, NULL, NULL, 0);
+    if ((__atomic_exchange_n(&holder, 0, __ATOMIC_RELEASE) & WAITED_FOR) != 0)
+        syscall(SYS_futex, &holder, FUTEX_WAKE_PRIVATE, INT_MAX, NULL, NULL, 0);
     pthread_setcancelstate(before, NULL);
 }

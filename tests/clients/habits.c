@@ -279,6 +279,22 @@ static void example(key_serial_t key)
     show("instantiate", keyctl_instantiate(key, payload, (size_t)length, REQUESTOR));
 }
 
+/* ---- what a call takes */
+
+enum { READS = 10 };
+
+/* Reads between two calls of getppid(2), by which a trace finds them. */
+static void ten_reads(void)
+{
+    char payload[8];
+    key_serial_t key = add_key("user", "n", "v", 1, SESSION);
+    getppid();
+    for (int i = 0; i < READS; i++)
+        if (keyctl_read(key, payload, sizeof payload) != 1)
+            show("read", -1);
+    getppid();
+}
+
 int main(int count, char **words)
 {
     const char *subject = count > 1 ? words[1] : "";
@@ -286,7 +302,7 @@ int main(int count, char **words)
         const char *name;
         void (*does)(void);
     } subjects[] = {{"cancel", cancel}, {"jump", jump}, {"interrupt", interrupt}, {"connects", connects}, {"closes", closes},
-                  {"stream", stream}, {"number", number}, {"user", user}, {"restart", restart}};
+                  {"stream", stream}, {"number", number}, {"user", user}, {"restart", restart}, {"reads", ten_reads}};
     if (count == 3 && strcmp(subject, "example") == 0)
         example(atoi(words[2]));
     for (size_t i = 0; i < sizeof subjects / sizeof *subjects; i++)
