@@ -46,7 +46,7 @@ def commands(keys):
 def miscalled(keys):
     """Each command without arguments, and with too many: its usage, but where that is a call."""
     for name in listed():
-        keys.fits(name, ALONE.get(name, USAGE), session=keys.session)
+        keys.fits(name, ALONE.get(name, USAGE), session=keys.session, uid=UID)
         if name not in OF_ANY_LENGTH:
             keys.fits(f"{name} a b c d e f g h i j k l", USAGE)
 
@@ -97,6 +97,8 @@ create user script:* * %plain %room/script %k
 create user silent:* * %plain /bin/true
 create dns_resolver * * %plain /sbin/key.dns_resolver %k
 create user made:* * |/bin/cat
+create logon made:* * |/bin/cat
+create other* made:* * |/bin/cat
 create user slow:* * |%room/slow
 negate * * * %plain /bin/keyctl negate %k 30 %S
 """
@@ -311,14 +313,32 @@ def runs(program, library):
         refuses(runner, daemon.room)
 
 
+# How long the description of the session ring is, with its zero byte.
+RING = len(f"keyring;{UID};-1;3f000000;_ses") + 1
+
 # What tests/clients/calls.py prints by each subject.
 PRINTED = {
     "left_out": ["[]"],
+    "attributes": [
+        *[f"{name} ['EOPNOTSUPP', 'EOPNOTSUPP', 'ENOKEY', 'EINVAL', 'ENOKEY']"
+          for name in ["update", "chown", "get_security", "get_security_alloc", "invalidate"]],
+        "chown to nobody 0", "move ['EOPNOTSUPP', 'EINVAL', 'ENOKEY', 'EINVAL', 'EINVAL', 'ENOTDIR', 'ENOTDIR']",
+        *[f"{mask} [0, 0, 0, 'ENOKEY']" for mask in ["3f000000", "3f3f3f3f"]],
+        *[f"{mask} ['EOPNOTSUPP', 'EOPNOTSUPP', 'EOPNOTSUPP', 'ENOKEY']" for mask in ["1f000000", "0"]],
+        "40000000 ['EINVAL', 'EINVAL', 'EINVAL', 'EINVAL']",
+    ],
+    "types": [
+        *[f"{name} EOPNOTSUPP" for name in ["encrypted", "trusted", "asymmetric", "ceph", "rxrpc", "cifs.idmap", "fscrypt-provisioning", "logon"]],
+        ".fscrypt EPERM", "unheard ENODEV", *[f"{name} 1" for name in ["user", "big_key", "dns_resolver", "id_resolver"]],
+        *[f"logon {name} EINVAL EINVAL" for name in ["", "none", ":none"]],
+        f"logon True logon;{UID};-1;3f000000;made:it;0;valid; EOPNOTSUPP", f"other;1;valid True other;1;valid;{UID};-1;3f000000;made:it;0;valid; 1",
+    ],
     "faults": [
         "add_key EOPNOTSUPP", "add_key EFAULT", "add_key EINVAL", "add_key EFAULT", "add_key EINVAL", "add_key EINVAL", "request_key EFAULT",
         "keyctl_instantiate EFAULT", "keyctl_instantiate_iov EINVAL", "keyctl_instantiate_iov EFAULT", "keyctl_join_session_keyring EINVAL",
         "keyctl_join_session_keyring EINVAL", "keyctl_join_session_keyring EPERM", "keyctl_search EFAULT", "keyctl_search EINVAL", "keyctl_clear EINVAL",
-        *[f"{name} ['EOPNOTSUPP', 'EOPNOTSUPP', 'EOPNOTSUPP', 'ENOKEY']" for name in ["keyctl_describe", "keyctl_read", "keyctl_revoke", "keyctl_set_timeout"]],
+        f"keyctl_describe [{RING}, 'EOPNOTSUPP', {RING}, 'ENOKEY']",
+        *[f"{name} ['EOPNOTSUPP', 'EOPNOTSUPP', 'EOPNOTSUPP', 'ENOKEY']" for name in ["keyctl_read", "keyctl_revoke", "keyctl_set_timeout"]],
         "keyctl_link 0", "keyctl_revoke EOPNOTSUPP", "keyctl_get_keyring_ID ['ENOKEY', 'EOPNOTSUPP', 'ENOKEY', 'ENOKEY', 'ENOKEY', 'EINVAL'] True",
     ],
     "buffers": [
@@ -327,7 +347,7 @@ PRINTED = {
     ],
     "raw": [
         "0 True", "6 True", "10 True", "8 0", "9 0", "11 1", "12 EPERM", "13 EPERM", "14 0", "15 0", "16 ENOKEY", "16 0", "19 EPERM", "20 EINVAL", "31 2",
-        "3 0", "7 0", "2 EOPNOTSUPP", "99 EOPNOTSUPP", "1 True True",
+        "3 0", "7 0", "2 ENOKEY", "4 ENOKEY", "5 ENOKEY", "17 ENOKEY", "21 ENOKEY", "30 ENOKEY", "99 EOPNOTSUPP", "1 True True",
     ],
     "shared": ["child 0 EKEYREVOKED", "threads []"],
     "waiting": ["child 0", "thread 7"],

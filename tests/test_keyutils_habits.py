@@ -169,6 +169,8 @@ def connects(keys):
             if at == 0:
                 go.wait(LIMIT)
             return peer.rings(0, 0, 4, 8)
+        if body[0] == 8:
+            return peer.data(b"user;1000;valid;n")
         if body == beside:
             reply.wait(LIMIT)
         return peer.data(b"v")

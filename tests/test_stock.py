@@ -9,6 +9,7 @@ import socket
 import subprocess
 import tempfile
 
+import protocol_peer as peer
 import trap
 from compiled import made
 from counted import Counted
@@ -19,7 +20,8 @@ from programs import ran, there, top
 count = Counted()
 SYSTEM = "/usr/sbin:/sbin:/usr/bin:/bin"
 BINDINGS = top / "tests" / "clients" / "bindings.py"
-BOUND = ["b'v' True True", "True None", "None None None None", "Key has been revoked", "Operation not supported", "True True None"]
+BOUND = ["b'v' True True", "True None", f"None b'keyring;{os.geteuid()};-1;3f000000;_ses'", "None None None None",
+         *["Key has been revoked"] * 2, *["Operation not supported"] * 4, "True True None"]
 
 # A handler in a trap, where all handlers have the library, too: what it gets, and what it has of the library's variables.
 BOTH = """#!/bin/sh
@@ -121,15 +123,17 @@ class Center:
             self.process.kill()
             self.process.wait()
 
-    def upcalls(self, way, run):
-        """The blob with which a client begins a session at a server."""
+    def upcalls(self, way, run, daemon):
+        """The blob with which a client begins a session at a server: the kernel's alone to read, and not a program's."""
         if not self.there:
             return
         name = f"ver=0x2;host=server;ip4=127.0.0.1;sec=krb5;uid=0x0;creduid=0x0;user=user;pid=0x{os.getpid():x}"
         status, key, errors = run("keyctl", "request2", "cifs.spnego", name, "", "@s")
         count.same(f"cifs.upcall by {way}", (status, errors), (0, ""))
-        shown = run("keyctl", "read", key.strip())[1]
-        count.same(f"cifs.upcall by {way}: the ticket", int(shown.split(" ")[0] if status == 0 else 0) > 400, True)
+        count.same(f"cifs.upcall by {way}: a program reads", run("keyctl", "read", key.strip())[0], 1)
+        ring = int(run("keyctl", "id", "@s")[1])
+        payload = daemon.client(0, join=ring).ask(peer.on_key(7, int(key or 0)))
+        count.same(f"cifs.upcall by {way}: the ticket", len(payload) > 400, True)
 
 
 def bindings(way, run):
@@ -141,14 +145,14 @@ def bindings(way, run):
     count.same(f"python3-keyutils by {way}", (status, output.split("\n")[:-1], errors), (0, BOUND, ""))
 
 
-def tries(way, run, center):
+def tries(way, run, center, daemon):
     if shutil.which("request-key", path=SYSTEM) and os.path.exists("/etc/request-key.conf"):
         stock(way, run)
         resolves(count, way, run)
     else:
         print("request-key: not tried, it or its configuration is not here")
     maps(way, run)
-    center.upcalls(way, run)
+    center.upcalls(way, run, daemon)
     bindings(way, run)
 
 
@@ -168,7 +172,7 @@ def main():
                 with Daemon(daemon_program, f"create user both:* * {program} --key %k %room/both %k\n" + lines("", center), "--keyutils", library) as daemon:
                     daemon.script("both", BOTH)
                     keys = Programs(daemon, library)
-                    tries("the library", keys.run, center)
+                    tries("the library", keys.run, center, daemon)
                     if trap.notifies():
                         key = keys.run("keyctl", "request2", "user", "both:a", "words", "@s")[1].strip()
                         count.same("a trap where all handlers have the library", keys.run("keyctl", "print", key), (0, "words, <>\n", ""))
@@ -177,7 +181,7 @@ def main():
                     continue
                 with Daemon(daemon_program, lines(f"{program} --key %k ", center)) as daemon:
                     with trap.Inside(trap.Trap(program, daemon.path).words(), env=trap.environment()) as inside:
-                        tries("the trap", inside.run, center)
+                        tries("the trap", inside.run, center, daemon)
         finally:
             center.end()
     count.end()

@@ -34,6 +34,8 @@ UID = os.geteuid()
 RUNTIME = top / "tests" / "clients" / "runtime.py"
 
 LINES = """create user made:* * |/bin/cat
+create logon made:* * |/bin/cat
+create other* made:* * |/bin/cat
 create user slow:* * |/bin/cat %room/fifo
 create user traps:* * %trap --key %k %room/trapped handles %k
 create user shell:* * %trap --key %k %room/shell %k

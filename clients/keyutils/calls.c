@@ -1,9 +1,8 @@
 #include "calls.h"
-#include "session.h"
+#include "on_key.h"
+#include "types.h"
 
 #include <errno.h>
-#include <stdbool.h>
-#include <stdio.h>
 #include <stdlib.h>
 #include <string.h>
 
@@ -13,53 +12,71 @@ const char keyutils_build_string[] = "on reqkeyd";
 
 enum {
     PAYLOAD = 32767,
-    NAME = 4096, /* of a ring, with its zero byte */
-    DESCRIPTION = 31 + 1 + 10 + 1 + 2 + 1 + 8 + 1 + 4095 + 1, /* type;uid;gid;permissions;description and a zero byte */
+    TYPE = 32,   /* with its zero byte */
+    NAME = 4096, /* of a ring, or a description, with its zero byte */
 };
 
-/* What is said of each key: who possesses it may do all with it, and nobody else. */
-static const char PERMISSIONS[] = "3f000000";
-
-static int failed(int error)
-{
-    errno = error;
-    return -1;
-}
-
-/*
- * A handler's authority and its requester's ring have no serials. These stand for them in a handler's calls. They are the numbers that the daemon would give
- * last, after two thousand million keys.
- */
-enum { REQUESTOR_SERIAL = INT32_MAX - 7, AUTHORITY_SERIAL = INT32_MAX - 6 };
-
-/* What a serial stands for. */
-static key_serial_t meant(key_serial_t id)
-{
-    if (!session_is_handlers())
-        return id;
-    return id == REQUESTOR_SERIAL ? REQKEY_REQUESTOR_RING : id == AUTHORITY_SERIAL ? REQKEY_AUTHORITY : id;
-}
-
 /* ---- names */
+
+/* The error of a new ring, which the daemon does not make: that of its words, else EOPNOTSUPP. */
+static int fault_of_ring(const char *description, size_t plen)
+{
+    size_t length = strlen(description);
+    return description[0] == '.' ? EPERM : plen > 0 || length == 0 || length >= NAME ? EINVAL : EOPNOTSUPP;
+}
+
+/* The error of a new key's words that the daemon does not know of, or 0. */
+static int fault_of_new(const char *type, const char *description, size_t plen)
+{
+    size_t length = strlen(type);
+    if (length == 0 || length >= TYPE || type[0] == '.')
+        return 0; /* which the daemon refuses */
+    switch (type_use(type)) {
+    case TYPE_OF_RINGS:
+        return fault_of_ring(description, plen);
+    case TYPE_OF_KERNEL:
+        return type_allows(type, description) ? EOPNOTSUPP : EINVAL;
+    case TYPE_UNKNOWN:
+        return ENODEV;
+    default:
+        return 0;
+    }
+}
+
+/* What a key of this type is, for the calls that follow. */
+static int learned(int key, const char *type)
+{
+    if (key > 0 && type_is_readable(type, strlen(type)))
+        session_learns(key);
+    return key;
+}
 
 key_serial_t add_key(const char *type, const char *description, const void *payload, size_t plen, key_serial_t ringid)
 {
     if (type == NULL || (payload == NULL && plen > 0))
         return failed(EFAULT);
-    if (description == NULL)
+    if (description == NULL || (is_no_place(ringid) && type[0] != '.'))
         return failed(EINVAL);
-    if (strcmp(type, "keyring") == 0)
-        return failed(EOPNOTSUPP);
+    int fault = fault_of_new(type, description, plen);
+    if (fault != 0)
+        return failed(fault);
     struct reqkey *session = session_begin(0);
-    return session == NULL ? -1 : (key_serial_t)session_end(reqkey_add(session, type, description, payload, plen, meant(ringid)));
+    if (session == NULL)
+        return -1;
+    int key = learned(reqkey_add(session, type, description, payload, plen, meant(ringid)), type);
+    return (key_serial_t)session_end(in_ring(session, key, ringid));
 }
 
 key_serial_t request_key(const char *type, const char *description, const char *callout_info, key_serial_t destringid)
 {
     if (type == NULL || description == NULL)
         return failed(EFAULT);
+    if (callout_info != NULL && !type_allows(type, description))
+        return failed(EINVAL);
     struct reqkey *session = session_begin(0);
-    return session == NULL ? -1 : (key_serial_t)session_end(reqkey_request(session, type, description, callout_info, meant(destringid)));
+    if (session == NULL)
+        return -1;
+    return (key_serial_t)session_end(learned(reqkey_request(session, type, description, callout_info, meant(destringid)), type));
 }
 
 key_serial_t find_key_by_type_and_desc(const char *type, const char *desc, key_serial_t destringid)
@@ -69,7 +86,7 @@ key_serial_t find_key_by_type_and_desc(const char *type, const char *desc, key_s
 
 /* ---- rings */
 
-/* The serial of a ring by its special number, 0 for one that there is not. A handler has not been told its requester's rings. */
+/* The serial of a ring by its special number, 0 for one that there is not, -1 for one that is left out. A handler has not been told its requester's rings. */
 static key_serial_t ring_serial(struct reqkey_rings rings, key_serial_t id)
 {
     switch (rings.session == 0 ? 0 : id) {
@@ -98,12 +115,14 @@ static key_serial_t handlers_serial(key_serial_t id)
     return session_end(result < 0 ? result : 0) < 0 ? -1 : serial;
 }
 
-/* No ring is made, whatever `create` says. Of the serials those of rings are left out for keyctl_describe. */
+/* No ring is made, whatever `create` says. */
 key_serial_t keyctl_get_keyring_ID(key_serial_t id, int create)
 {
     (void)create;
-    if (id >= 0)
+    if (id > 0)
         return keyctl_describe(id, NULL, 0) >= 0 || errno == EOPNOTSUPP ? id : -1;
+    if (is_no_place(id))
+        return failed(EINVAL);
     if (id == REQKEY_AUTHORITY || id == REQKEY_REQUESTOR_RING)
         return handlers_serial(id);
     if (session_begin(0) == NULL)
@@ -124,36 +143,46 @@ key_serial_t keyctl_join_session_keyring(const char *name)
 
 long keyctl_clear(key_serial_t ringid)
 {
-    if (ringid == 0)
+    if (is_no_place(ringid))
         return failed(EINVAL);
     struct reqkey *session = session_begin(0);
-    return session == NULL ? -1 : session_end(reqkey_clear(session, meant(ringid)));
+    return session == NULL ? -1 : session_end(in_ring(session, reqkey_clear(session, meant(ringid)), ringid));
 }
 
-/* Whether the user ring would be linked into the session ring. It is searched anyway, so that is done. Of the session that has begun. */
-static bool is_users_link(key_serial_t id, key_serial_t ringid)
+/* A ring's link in a ring: none is made, and there is none. That of the user ring in the session ring is as good as there, since that is searched anyway. */
+static long link_of_ring(struct reqkey *session, key_serial_t id, key_serial_t ringid, bool makes)
 {
-    struct reqkey_rings rings = session_rings();
-    bool from_user = id == REQKEY_USER_RING || (id > 0 && (uint32_t)id == rings.user);
-    return from_user && (ringid == REQKEY_SESSION_RING || (ringid > 0 && (uint32_t)ringid == rings.session));
+    bool users = makes && is_user_ring(id) && is_session_ring(ringid);
+    int result = users ? 0 : in_ring(session, -REQKEY_ENOKEY, ringid);
+    bool is_ring = ringid < 0 || is_session_ring(ringid) || is_user_ring(ringid);
+    return session_end(is_ring && !users ? (makes ? -EOPNOTSUPP : -ENOENT) : result);
+}
+
+/* A link is made, or taken away. */
+static long linked(key_serial_t id, key_serial_t ringid, bool makes)
+{
+    if (is_no_place(ringid))
+        return failed(EINVAL);
+    struct reqkey *session = session_begin(id);
+    if (session == NULL)
+        return -1;
+    key_serial_t place = meant(ringid);
+    if (is_user_ring(id) || is_session_ring(id))
+        return link_of_ring(session, id, place, makes);
+    int fault = fault_of(id), result = -fault;
+    if (fault == 0)
+        result = in_ring(session, makes ? reqkey_link(session, id, place) : reqkey_unlink(session, id, place), place);
+    return session_end(result);
 }
 
 long keyctl_link(key_serial_t id, key_serial_t ringid)
 {
-    if (session_begin(0) == NULL)
-        return -1;
-    bool done = is_users_link(id, ringid);
-    session_end(0);
-    if (done)
-        return 0;
-    struct reqkey *session = session_begin(id);
-    return session == NULL ? -1 : session_end(reqkey_link(session, id, meant(ringid)));
+    return linked(id, ringid, true);
 }
 
 long keyctl_unlink(key_serial_t id, key_serial_t ringid)
 {
-    struct reqkey *session = session_begin(id);
-    return session == NULL ? -1 : session_end(reqkey_unlink(session, id, meant(ringid)));
+    return linked(id, ringid, false);
 }
 
 /* A key of this name in the user ring, linked in another ring: a result of the session that has begun. */
@@ -178,13 +207,14 @@ long keyctl_search(key_serial_t ringid, const char *type, const char *descriptio
     struct reqkey *session = session_begin(0);
     if (session == NULL)
         return -1;
-    struct reqkey_rings rings = session_rings();
-    if (ringid == REQKEY_USER_RING || (ringid > 0 && (uint32_t)ringid == rings.user))
+    if (is_user_ring(ringid))
         return session_end(found_in_user_ring(session, type, description, destringid));
-    if (ringid == REQKEY_SESSION_RING || (ringid > 0 && (uint32_t)ringid == rings.session))
-        return session_end(reqkey_request(session, type, description, NULL, meant(destringid)));
+    if (is_session_ring(ringid))
+        return session_end(learned(reqkey_request(session, type, description, NULL, meant(destringid)), type));
+    if (ringid > 0)
+        return session_end(in_ring(session, -REQKEY_ENOKEY, ringid));
     session_end(0);
-    return failed(ringid == REQKEY_THREAD_RING || ringid == REQKEY_PROCESS_RING || ringid > 0 ? ENOKEY : ringid == 0 ? EINVAL : EOPNOTSUPP);
+    return failed(is_no_place(ringid) ? EINVAL : ringid == REQKEY_THREAD_RING || ringid == REQKEY_PROCESS_RING ? ENOKEY : EOPNOTSUPP);
 }
 
 long keyctl_set_reqkey_keyring(int reqkey_defl)
@@ -197,13 +227,13 @@ long keyctl_set_reqkey_keyring(int reqkey_defl)
 
 long keyctl_revoke(key_serial_t id)
 {
-    struct reqkey *session = session_begin(id);
+    struct reqkey *session = begin_on(id);
     return session == NULL ? -1 : session_end(reqkey_revoke(session, id));
 }
 
 long keyctl_set_timeout(key_serial_t key, unsigned timeout)
 {
-    struct reqkey *session = session_begin(key);
+    struct reqkey *session = begin_on(key);
     return session == NULL ? -1 : session_end(reqkey_timeout(session, key, timeout));
 }
 
@@ -215,82 +245,41 @@ static long copied(int length, const void *bytes, char *buffer, size_t buflen)
     return session_end(length);
 }
 
-/* The same of a description, which is written if there is room for all of it. */
-static long described(int length, const char *words, char *buffer, size_t buflen)
+/*
+ * Whether the payload of a key may be given: 0, or the error of READ. A key of a type that only the kernel reads is asked for while it has no payload alone:
+ * its error is told then.
+ */
+static int readable(struct reqkey *session, key_serial_t key)
 {
-    return copied(length, words, length >= 0 && (size_t)length <= buflen ? buffer : NULL, buflen);
+    struct described parts;
+    const void *payload;
+    if (session_has_learned(key))
+        return 0;
+    int result = look_up(session, key, &parts);
+    bool known = result == 0 || result == -REQKEY_EKEYREVOKED || result == -REQKEY_EKEYEXPIRED;
+    if (!known)
+        return result;
+    if (type_is_readable(parts.type, parts.type_length)) {
+        session_learns(key);
+        return 0;
+    }
+    bool fails = described_is(&parts, "negative") || described_is(&parts, "building");
+    result = fails ? reqkey_read(session, key, &payload) : 0;
+    return result < 0 ? result : -EOPNOTSUPP;
 }
 
-/* The authority's payload is the callout. */
+/* The authority's payload is the callout. A number that names nothing is ENOKEY, as in the kernel. */
 long keyctl_read(key_serial_t id, char *buffer, size_t buflen)
 {
     const void *payload = NULL;
     key_serial_t key = meant(id);
-    struct reqkey *session = session_begin(key == REQKEY_AUTHORITY ? 0 : key);
+    if (id == 0 || id < REQKEY_REQUESTOR_RING)
+        return failed(ENOKEY);
+    struct reqkey *session = key == REQKEY_AUTHORITY ? session_begin(0) : begin_on(key);
     if (session == NULL)
         return -1;
-    int length = reqkey_read(session, key, &payload);
+    int fault = key == REQKEY_AUTHORITY ? 0 : readable(session, key), length = fault < 0 ? fault : reqkey_read(session, key, &payload);
     return copied(length, payload, buffer, buflen);
-}
-
-/* `type;uid;state;description` as the kernel tells it. The length with a zero byte, or the error of the state. */
-static int kernels_words(const char *text, char *words)
-{
-    const char *uid = strchr(text, ';'), *state = uid == NULL ? NULL : strchr(uid + 1, ';'), *description = state == NULL ? NULL : strchr(state + 1, ';');
-    if (description == NULL)
-        return -REQKEY_MALFORMED;
-    if (strncmp(state, ";revoked;", 9) == 0)
-        return -REQKEY_EKEYREVOKED;
-    if (strncmp(state, ";expired;", 9) == 0)
-        return -REQKEY_EKEYEXPIRED;
-    int length = snprintf(words, DESCRIPTION, "%.*s;-1;%s%s", (int)(state - text), text, PERMISSIONS, description);
-    return length < DESCRIPTION ? length + 1 : -REQKEY_MALFORMED;
-}
-
-/* The authority of a handler that has assumed it, as the kernel describes its key: for the user whom the handler acts for, and named by the handler's key. */
-static long described_authority(char *buffer, size_t buflen)
-{
-    const char *text, *uid;
-    char words[DESCRIPTION];
-    struct reqkey *session = session_begin(0);
-    if (session == NULL)
-        return -1;
-    int key = session_assumed(), length = key == 0 ? -EOPNOTSUPP : reqkey_describe(session, key, &text);
-    if (length >= 0 && (uid = strchr(text, ';')) != NULL)
-        length = 1 + snprintf(words, sizeof words, ".request_key_auth;%u;-1;0b010000;%x", (unsigned)strtoul(uid + 1, NULL, 10), (unsigned)key);
-    else if (length >= 0)
-        length = -REQKEY_MALFORMED;
-    return described(length, words, buffer, buflen);
-}
-
-long keyctl_describe(key_serial_t id, char *buffer, size_t buflen)
-{
-    const char *text;
-    char words[DESCRIPTION];
-    key_serial_t key = meant(id);
-    if (key == REQKEY_AUTHORITY && session_is_handlers())
-        return described_authority(buffer, buflen);
-    struct reqkey *session = session_begin(key);
-    if (session == NULL)
-        return -1;
-    int length = reqkey_describe(session, key, &text);
-    if (length >= 0)
-        length = kernels_words(text, words);
-    return described(length, words, buffer, buflen);
-}
-
-int keyctl_describe_alloc(key_serial_t id, char **_buffer)
-{
-    char *buffer = malloc(DESCRIPTION);
-    if (buffer == NULL)
-        return -1;
-    long length = keyctl_describe(id, buffer, DESCRIPTION);
-    if (length < 0) {
-        free(buffer);
-        return -1;
-    }
-    *_buffer = buffer;
-    return (int)length - 1;
 }
 
 int keyctl_read_alloc(key_serial_t id, void **_buffer)
@@ -326,7 +315,7 @@ long keyctl_instantiate(key_serial_t id, const void *payload, size_t plen, key_s
 {
     if (payload == NULL && plen > 0)
         return failed(EFAULT);
-    struct reqkey *session = session_begin(id);
+    struct reqkey *session = begin_on(id);
     return session == NULL ? -1 : session_end(reqkey_instantiate(session, id, payload, plen, meant(ringid)));
 }
 
@@ -349,13 +338,13 @@ long keyctl_instantiate_iov(key_serial_t id, const struct iovec *payload_iov, un
 
 long keyctl_negate(key_serial_t id, unsigned timeout, key_serial_t ringid)
 {
-    struct reqkey *session = session_begin(id);
+    struct reqkey *session = begin_on(id);
     return session == NULL ? -1 : session_end(reqkey_negate(session, id, timeout, meant(ringid)));
 }
 
 long keyctl_reject(key_serial_t id, unsigned timeout, unsigned error, key_serial_t ringid)
 {
-    struct reqkey *session = session_begin(id);
+    struct reqkey *session = begin_on(id);
     return session == NULL ? -1 : session_end(reqkey_reject(session, id, timeout, error, meant(ringid)));
 }
 

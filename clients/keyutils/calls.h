@@ -20,7 +20,10 @@ struct keyctl_pkey_query;
 /* The commands of keyctl() that are answered; the numbers are the kernel's. */
 #define KEYCTL_GET_KEYRING_ID 0
 #define KEYCTL_JOIN_SESSION_KEYRING 1
+#define KEYCTL_UPDATE 2
 #define KEYCTL_REVOKE 3
+#define KEYCTL_CHOWN 4
+#define KEYCTL_SETPERM 5
 #define KEYCTL_DESCRIBE 6
 #define KEYCTL_CLEAR 7
 #define KEYCTL_LINK 8
@@ -32,14 +35,17 @@ struct keyctl_pkey_query;
 #define KEYCTL_SET_REQKEY_KEYRING 14
 #define KEYCTL_SET_TIMEOUT 15
 #define KEYCTL_ASSUME_AUTHORITY 16
+#define KEYCTL_GET_SECURITY 17
 #define KEYCTL_REJECT 19
 #define KEYCTL_INSTANTIATE_IOV 20
+#define KEYCTL_INVALIDATE 21
+#define KEYCTL_MOVE 30
 #define KEYCTL_CAPABILITIES 31
 
 extern const char keyutils_version_string[];
 extern const char keyutils_build_string[];
 
-/* Answered by the daemon, or from what it has said: calls.c. */
+/* Answered by the daemon, or from what it has said: calls.c, attributes.c. */
 key_serial_t add_key(const char *type, const char *description, const void *payload, size_t plen, key_serial_t ringid);
 key_serial_t request_key(const char *type, const char *description, const char *callout_info, key_serial_t destringid);
 key_serial_t find_key_by_type_and_desc(const char *type, const char *desc, key_serial_t destringid);
@@ -62,18 +68,21 @@ long keyctl_set_reqkey_keyring(int reqkey_defl);
 long keyctl_set_timeout(key_serial_t key, unsigned timeout);
 long keyctl_assume_authority(key_serial_t key);
 long keyctl_capabilities(unsigned char *buffer, size_t buflen);
+long keyctl_setperm(key_serial_t id, key_perm_t perm);
+
+/* EOPNOTSUPP, but for the errors of a key that the kernel tells first: attributes.c. */
+long keyctl_update(key_serial_t id, const void *payload, size_t plen);
+long keyctl_chown(key_serial_t id, uid_t uid, gid_t gid);
+long keyctl_invalidate(key_serial_t id);
+long keyctl_get_security(key_serial_t key, char *buffer, size_t buflen);
+int keyctl_get_security_alloc(key_serial_t id, char **_buffer);
+long keyctl_move(key_serial_t id, key_serial_t from_ringid, key_serial_t to_ringid, unsigned int flags);
 
 /* Those by the number of a command: raw.c. */
 long keyctl(int cmd, ...);
 
 /* EOPNOTSUPP: left_out.c. */
-long keyctl_update(key_serial_t id, const void *payload, size_t plen);
-long keyctl_chown(key_serial_t id, uid_t uid, gid_t gid);
-long keyctl_setperm(key_serial_t id, key_perm_t perm);
-long keyctl_get_security(key_serial_t key, char *buffer, size_t buflen);
-int keyctl_get_security_alloc(key_serial_t id, char **_buffer);
 long keyctl_session_to_parent(void);
-long keyctl_invalidate(key_serial_t id);
 long keyctl_get_persistent(uid_t uid, key_serial_t id);
 long keyctl_dh_compute(key_serial_t priv, key_serial_t prime, key_serial_t base, char *buffer, size_t buflen);
 int keyctl_dh_compute_alloc(key_serial_t priv, key_serial_t prime, key_serial_t base, void **_buffer);
@@ -85,7 +94,6 @@ long keyctl_pkey_encrypt(key_serial_t key_id, const char *info, const void *data
 long keyctl_pkey_decrypt(key_serial_t key_id, const char *info, const void *enc, size_t enc_len, void *data, size_t data_len);
 long keyctl_pkey_sign(key_serial_t key_id, const char *info, const void *data, size_t data_len, void *sig, size_t sig_len);
 long keyctl_pkey_verify(key_serial_t key_id, const char *info, const void *data, size_t data_len, const void *sig, size_t sig_len);
-long keyctl_move(key_serial_t id, key_serial_t from_ringid, key_serial_t to_ringid, unsigned int flags);
 long keyctl_watch_key(key_serial_t id, int watch_queue_fd, int watch_id);
 int recursive_key_scan(key_serial_t key, recursive_key_scanner_t func, void *data);
 int recursive_session_key_scan(recursive_key_scanner_t func, void *data);

@@ -12,13 +12,7 @@
         return -1;                                                                                                                                             \
     }
 
-LEFT_OUT(long, keyctl_update, key_serial_t id, const void *payload, size_t plen)
-LEFT_OUT(long, keyctl_chown, key_serial_t id, uid_t uid, gid_t gid)
-LEFT_OUT(long, keyctl_setperm, key_serial_t id, key_perm_t perm)
-LEFT_OUT(long, keyctl_get_security, key_serial_t key, char *buffer, size_t buflen)
-LEFT_OUT(int, keyctl_get_security_alloc, key_serial_t id, char **_buffer)
 LEFT_OUT(long, keyctl_session_to_parent, void)
-LEFT_OUT(long, keyctl_invalidate, key_serial_t id)
 LEFT_OUT(long, keyctl_get_persistent, uid_t uid, key_serial_t id)
 LEFT_OUT(long, keyctl_dh_compute, key_serial_t priv, key_serial_t prime, key_serial_t base, char *buffer, size_t buflen)
 LEFT_OUT(int, keyctl_dh_compute_alloc, key_serial_t priv, key_serial_t prime, key_serial_t base, void **_buffer)
@@ -30,7 +24,6 @@ LEFT_OUT(long, keyctl_pkey_encrypt, key_serial_t key_id, const char *info, const
 LEFT_OUT(long, keyctl_pkey_decrypt, key_serial_t key_id, const char *info, const void *enc, size_t enc_len, void *data, size_t data_len)
 LEFT_OUT(long, keyctl_pkey_sign, key_serial_t key_id, const char *info, const void *data, size_t data_len, void *sig, size_t sig_len)
 LEFT_OUT(long, keyctl_pkey_verify, key_serial_t key_id, const char *info, const void *data, size_t data_len, const void *sig, size_t sig_len)
-LEFT_OUT(long, keyctl_move, key_serial_t id, key_serial_t from_ringid, key_serial_t to_ringid, unsigned int flags)
 LEFT_OUT(long, keyctl_watch_key, key_serial_t id, int watch_queue_fd, int watch_id)
 LEFT_OUT(int, recursive_key_scan, key_serial_t key, recursive_key_scanner_t func, void *data)
 LEFT_OUT(int, recursive_session_key_scan, recursive_key_scanner_t func, void *data)

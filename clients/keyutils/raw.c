@@ -18,8 +18,14 @@ long keyctl(int cmd, ...)
         return keyctl_get_keyring_ID(id, (int)a[1]);
     case KEYCTL_JOIN_SESSION_KEYRING:
         return keyctl_join_session_keyring((const char *)a[0]);
+    case KEYCTL_UPDATE:
+        return keyctl_update(id, (const void *)a[1], a[2]);
     case KEYCTL_REVOKE:
         return keyctl_revoke(id);
+    case KEYCTL_CHOWN:
+        return keyctl_chown(id, (uid_t)a[1], (gid_t)a[2]);
+    case KEYCTL_SETPERM:
+        return keyctl_setperm(id, (key_perm_t)a[1]);
     case KEYCTL_DESCRIBE:
         return keyctl_describe(id, (char *)a[1], a[2]);
     case KEYCTL_CLEAR:
@@ -42,10 +48,16 @@ long keyctl(int cmd, ...)
         return keyctl_set_timeout(id, (unsigned)a[1]);
     case KEYCTL_ASSUME_AUTHORITY:
         return keyctl_assume_authority(id);
+    case KEYCTL_GET_SECURITY:
+        return keyctl_get_security(id, (char *)a[1], a[2]);
     case KEYCTL_REJECT:
         return keyctl_reject(id, (unsigned)a[1], (unsigned)a[2], (key_serial_t)a[3]);
     case KEYCTL_INSTANTIATE_IOV:
         return keyctl_instantiate_iov(id, (const struct iovec *)a[1], (unsigned)a[2], (key_serial_t)a[3]);
+    case KEYCTL_INVALIDATE:
+        return keyctl_invalidate(id);
+    case KEYCTL_MOVE:
+        return keyctl_move(id, (key_serial_t)a[1], (key_serial_t)a[2], (unsigned)a[3]);
     case KEYCTL_CAPABILITIES:
         return keyctl_capabilities((unsigned char *)a[0], a[1]);
     default:

@@ -2,6 +2,7 @@
 
 #include "connection.h"
 #include "environment.h"
+#include "learned.h"
 #include "streams.h"
 #include "turn.h"
 
@@ -49,6 +50,7 @@ static struct {
     pid_t daemon; /* who has answered it, or 0 */
     unsigned calls;
     struct reqkey_rings rings;
+    struct learned learned; /* of this daemon's keys */
     uint32_t handed;   /* the ring that is there for what this process executes, or 0 */
     const char *frame; /* where the stack was when the call began */
 } own;
@@ -189,6 +191,7 @@ static bool is_now(struct reqkey *session, const struct reqkey_rings *rings)
     own.gid = getegid();
     own.daemon = connection_daemon(session);
     own.calls = 0;
+    own.learned = (struct learned){{0}};
     if (own.handed == rings->session) {
         fcntl(reqkey_descriptor(session), F_SETFD, 0);
         fcntl(reqkey_door(session), F_SETFD, 0); /* which fails without a door */
@@ -277,15 +280,6 @@ static int assume(int32_t key)
 
 /* ---- a call */
 
-static bool is_ring(int32_t key)
-{
-    const struct reqkey_rings *rings = &own.rings;
-    uint32_t serial = (uint32_t)key;
-    if (key < 0)
-        return key >= REQKEY_REQUESTOR_RING;
-    return key > 0 && (serial == rings->session || serial == rings->user || serial == rings->thread || serial == rings->process);
-}
-
 /* An earlier call of this thread did not end, so that nobody knows whose the next reply is: its session is over, and set aside. */
 static void set_aside(void)
 {
@@ -338,8 +332,6 @@ struct reqkey *session_begin(int32_t key)
     if (handler)
         own.held = (struct held){over_streams(), {0, 0}, {0, 0}};
     int fault = handler ? (own.held.session == NULL ? errno : 0) : is_connected() ? 0 : errno;
-    if (fault == 0 && is_ring(key))
-        fault = EOPNOTSUPP;
     bool hushes = fault == 0 && handler;
     if (hushes)
         hush();
@@ -389,6 +381,37 @@ bool session_is_handlers(void)
 struct reqkey_rings session_rings(void)
 {
     return own.rings;
+}
+
+uint32_t session_uid(void)
+{
+    return own.uid;
+}
+
+uint32_t session_shown(uint32_t user)
+{
+    return user;
+}
+
+bool session_is_own(uint32_t user)
+{
+    return streams_are_told() || user == own.uid;
+}
+
+/* A ring may have been joined by a name, but not here. */
+const char *session_ring_name(void)
+{
+    return "_ses";
+}
+
+void session_learns(int32_t key)
+{
+    learn(&own.learned, key);
+}
+
+bool session_has_learned(int32_t key)
+{
+    return has_learned(&own.learned, key);
 }
 
 struct reqkey *session_alone(void)

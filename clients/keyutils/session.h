@@ -25,8 +25,8 @@
 
 /*
  * The session for a request that names this key, or 0 for none. It is this thread's until session_end. NULL, and errno, if there is none: ENOTCONN if
- * neither variable is set, EKEYREVOKED if REQKEYD_JOIN is gone, what connect(2) says, an error of HELLO; EOPNOTSUPP if the key is a ring, or the authority;
- * ECONNRESET if a signal's function has called meanwhile.
+ * neither variable is set, EKEYREVOKED if REQKEYD_JOIN is gone, what connect(2) says, an error of HELLO; ECONNRESET if a signal's function has called
+ * meanwhile.
  */
 struct reqkey *session_begin(int32_t key);
 
@@ -36,13 +36,24 @@ long session_end(int result);
 /* Whether this is a handler's session. */
 bool session_is_handlers(void);
 
-/* The client's rings; all 0 in a handler. Of the session that has begun. */
+/* The client's rings; all 0 in a handler. Of the session that has begun, as all that follows but for session_renew. */
 struct reqkey_rings session_rings(void);
 
-/*
- * A connection of its own for the same user, in a new session ring: it finds only what is in the user ring. reqkey_free ends it. NULL, and errno. Of the
- * session that has begun.
- */
+/* The uid of the client, and that of a user of the daemon, as the caller knows them. */
+uint32_t session_uid(void);
+uint32_t session_shown(uint32_t user);
+
+/* Whether a key that is found may be of this user of the daemon: any one for a handler, who is not told for whom it acts. */
+bool session_is_own(uint32_t user);
+
+/* The name of the client's session ring, as the kernel describes one. */
+const char *session_ring_name(void);
+
+/* A key is of a type that programs may read; and whether that is known, which may be forgotten. */
+void session_learns(int32_t key);
+bool session_has_learned(int32_t key);
+
+/* A connection of its own for the same user, in a new session ring: it finds only what is in the user ring. reqkey_free ends it. NULL, and errno. */
 struct reqkey *session_alone(void);
 
 /* Puts this process, and what it executes, into a new session ring, and gives its serial; -1, and errno. Rings have no names here: `name` says what it may. */

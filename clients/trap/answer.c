@@ -2,16 +2,13 @@
 
 #include "../keyutils/calls.h"
 #include "../keyutils/session.h"
+#include "../keyutils/words.h"
 #include "caller.h"
 #include "calls_of.h"
 #include "memory.h"
-#include "sets.h"
-#include "rings.h"
 #include "session.h"
 
 #include <errno.h>
-#include <stdio.h>
-#include <stdlib.h>
 #include <string.h>
 
 /* Bytes: a name with its zero byte, as the kernel allows it; what a call gives; and parts of a payload. */
@@ -22,9 +19,7 @@ static __thread union {
     struct {
         char type[TYPE], description[DESCRIPTION], callout[CALLOUT], payload[PAYLOAD];
     } in;
-    struct {
-        char words[DESCRIPTION + TYPE + 64], theirs[DESCRIPTION + TYPE + 64];
-    } described;
+    char words[WORDS];
     char out[OUT];
 } room;
 
@@ -91,20 +86,9 @@ static long answer_read(const uint64_t *a)
     return put_back(told(keyctl_read((key_serial_t)a[0], room.out, OUT)), room.out, a[1], a[2]);
 }
 
-/* `type;uid;..`, in which the uid is the daemon's for this set. */
 static long answer_describe(const uint64_t *a)
 {
-    char *words = room.described.words, *theirs = room.described.theirs;
-    long length = told(keyctl_describe((key_serial_t)a[0], words, sizeof room.described.words));
-    char *type = length <= 0 ? NULL : strchr(words, ';'), *rest = NULL;
-    if (type == NULL)
-        return length;
-    unsigned long number = strtoul(type + 1, &rest, 10);
-    rings_lock();
-    uint32_t uid = set_uid(caller.set, (uint32_t)number);
-    rings_unlock();
-    length = snprintf(theirs, sizeof room.described.theirs, "%.*s;%u%s", (int)(type - words), words, uid, rest) + 1;
-    return put_back(length, theirs, a[1], a[2]);
+    return put_back(told(keyctl_describe((key_serial_t)a[0], room.words, WORDS)), room.words, a[1], a[2]);
 }
 
 static long answer_capabilities(const uint64_t *a)
@@ -200,6 +184,12 @@ static long answer_keyctl(uint32_t command, const uint64_t *a)
     case KEYCTL_SET_TIMEOUT:
     case KEYCTL_ASSUME_AUTHORITY:
     case KEYCTL_REJECT:
+    case KEYCTL_UPDATE: /* this one and those below do not look at memory */
+    case KEYCTL_CHOWN:
+    case KEYCTL_SETPERM:
+    case KEYCTL_GET_SECURITY:
+    case KEYCTL_INVALIDATE:
+    case KEYCTL_MOVE:
         return told(keyctl((int)command, a[0], a[1], a[2], a[3]));
     default:
         return -EOPNOTSUPP;

@@ -183,6 +183,11 @@ uint32_t ring_serial(const struct ring *ring)
     return ring->rings.session;
 }
 
+const char *ring_name(const struct ring *ring)
+{
+    return ring->name;
+}
+
 bool ring_is_of(const struct ring *ring, uint32_t number)
 {
     return ring->number == number;

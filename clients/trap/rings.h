@@ -16,6 +16,7 @@
 #define RINGS_H
 
 #include "../c/reqkey.h"
+#include "../keyutils/learned.h"
 
 #include <stdbool.h>
 #include <stdint.h>
@@ -30,6 +31,7 @@ struct connection {
     uint32_t gid;
     int setting; /* where keys go that are requested into no ring, as the daemon has it for this connection */
     unsigned calls;
+    struct learned learned; /* of the daemon's keys */
     struct connection *next;
 };
 
@@ -56,6 +58,10 @@ bool ring_hold(struct ring *ring);
 void ring_let_go(struct ring *ring);
 
 uint32_t ring_serial(const struct ring *ring);
+
+/* NULL for none, and "" for a first one. */
+const char *ring_name(const struct ring *ring);
+
 bool ring_is_of(const struct ring *ring, uint32_t number);
 
 /* Holds a ring, and lets go of it, of a thread that has the rings: for a process that is in it. */

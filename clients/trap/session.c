@@ -59,14 +59,6 @@ static struct connection *connection_of_caller(int *setting)
     return NULL;
 }
 
-static bool is_ring(int32_t key)
-{
-    uint32_t serial = (uint32_t)key;
-    if (key < 0)
-        return key >= REQKEY_REQUESTOR_RING;
-    return key > 0 && !is_handler() && (serial == mine->rings.session || serial == mine->rings.user);
-}
-
 /* Has a connection of several processes the setting of this one; a result that is an error if it can't. */
 static int set_default(int setting)
 {
@@ -80,6 +72,7 @@ struct reqkey *session_begin(int32_t key)
 {
     int setting = 0;
     struct reqkey *session = NULL;
+    (void)key;
     if (is_handler())
         session = handler_take();
     else if ((mine = connection_of_caller(&setting)) != NULL) {
@@ -91,11 +84,10 @@ struct reqkey *session_begin(int32_t key)
     }
     if (session == NULL)
         return NULL;
-    int fault = is_ring(key) ? EOPNOTSUPP : caller_lives() ? 0 : ESRCH; /* it may have waited for its turn */
-    if (fault == 0)
+    if (caller_lives()) /* it may have waited for its turn */
         return session;
     session_end(0);
-    errno = fault;
+    errno = ESRCH;
     return NULL;
 }
 
@@ -174,4 +166,27 @@ void session_assumes(int32_t key)
 int32_t session_assumed(void)
 {
     return handler_key();
+}
+
+const char *session_ring_name(void)
+{
+    const char *name = is_handler() ? NULL : ring_name(mine->ring);
+    return name == NULL || name[0] == 0 ? "_ses" : name;
+}
+
+/* Of the session that has begun. */
+static struct learned *learned(void)
+{
+    static struct learned handlers;
+    return is_handler() ? &handlers : &mine->learned;
+}
+
+void session_learns(int32_t key)
+{
+    learn(learned(), key);
+}
+
+bool session_has_learned(int32_t key)
+{
+    return has_learned(learned(), key);
 }

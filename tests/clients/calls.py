@@ -14,10 +14,9 @@ library = ctypes.CDLL(sys.argv[1], use_errno=True)
 THREAD, SESSION, USER, USER_SESSION, AUTHORITY, REQUESTOR = -1, -3, -4, -5, -7, -8
 NOTHING = 2_000_000_000  # a serial that nothing has
 
-LEFT_OUT = ["keyctl_update", "keyctl_chown", "keyctl_setperm", "keyctl_get_security", "keyctl_get_security_alloc", "keyctl_session_to_parent",
-            "keyctl_invalidate", "keyctl_get_persistent", "keyctl_dh_compute", "keyctl_dh_compute_alloc", "keyctl_dh_compute_kdf", "keyctl_restrict_keyring",
-            "keyctl_pkey_query", "keyctl_pkey_encrypt", "keyctl_pkey_decrypt", "keyctl_pkey_sign", "keyctl_pkey_verify", "keyctl_move", "keyctl_watch_key",
-            "recursive_key_scan", "recursive_session_key_scan"]
+LEFT_OUT = ["keyctl_session_to_parent", "keyctl_get_persistent", "keyctl_dh_compute", "keyctl_dh_compute_alloc", "keyctl_dh_compute_kdf",
+            "keyctl_restrict_keyring", "keyctl_pkey_query", "keyctl_pkey_encrypt", "keyctl_pkey_decrypt", "keyctl_pkey_sign", "keyctl_pkey_verify",
+            "keyctl_watch_key", "recursive_key_scan", "recursive_session_key_scan"]
 
 
 def call(name, *words):
@@ -38,6 +37,34 @@ def show(name, *words):
 def left_out():
     """Those that don't say that they are left out."""
     print([name for name in LEFT_OUT if call(name, 1, 0, 0, 0) != "EOPNOTSUPP"])
+
+
+def attributes():
+    """What would change a key: left out, once it is there."""
+    key, ring = call("add_key", b"user", b"n", b"v", 1, SESSION), call("keyctl_get_keyring_ID", SESSION, 0)
+    for name, *words in [("update", None, 0), ("chown", 0, 0), ("get_security", None, 0), ("get_security_alloc", None), ("invalidate",)]:
+        print(name, [call(f"keyctl_{name}", id, *words) for id in [key, ring, NOTHING, 0, THREAD]])
+    print("chown to nobody", call("keyctl_chown", key, -1, -1))
+    print("move", [call("keyctl_move", id, from_ring, to_ring, flags) for id, from_ring, to_ring, flags in [
+        (key, SESSION, USER, 0), (key, SESSION, USER, 2), (NOTHING, SESSION, USER, 0), (key, 0, USER, 0), (key, SESSION, -6, 0), (key, key, USER, 1),
+        (key, SESSION, key, 1)]])
+    for mask in [0x3f000000, 0x3f3f3f3f, 0x1f000000, 0, 0x40000000]:
+        print(f"{mask:x}", [call("keyctl_setperm", id, mask) for id in [key, ring, USER, NOTHING]])
+
+
+def types():
+    """Types of the kernel, of nobody, and one that has a semicolon."""
+    for name in [b"encrypted", b"trusted", b"asymmetric", b"ceph", b"rxrpc", b"cifs.idmap", b"fscrypt-provisioning", b"logon", b".fscrypt", b"unheard"]:
+        print(name.decode(), call("add_key", name, b"a:b", b"v", 1, SESSION))
+    for name in [b"user", b"big_key", b"dns_resolver", b"id_resolver"]:
+        print(name.decode(), call("keyctl_read", call("add_key", name, b"a:b", b"v", 1, SESSION), None, 0))
+    for name in [b"", b"none", b":none"]:
+        print("logon", name.decode(), call("add_key", b"logon", name, b"v", 1, SESSION), call("request_key", b"logon", name, b"x", SESSION))
+    held = ctypes.c_void_p()
+    for name in [b"logon", b"other;1;valid"]:
+        key = call("request_key", name, b"made:it;0;valid;", b"x", SESSION)
+        described = call("keyctl_describe_alloc", key, ctypes.byref(held)) > 0
+        print(name.decode(), described, ctypes.string_at(held.value).decode(), call("keyctl_read", key, None, 0))
 
 
 def faults():
@@ -88,7 +115,8 @@ def raw():
     print("10", call("keyctl", 10, SESSION, b"user", b"n", 0) == key)
     for number, *words in [
         (8, key, USER), (9, key, USER), (11, key, buffer, 99), (12, key, b"v", 1, 0), (13, key, 1, 0), (14, -1), (15, key, 9), (16, key), (16, 0),
-        (19, key, 1, 129, 0), (20, key, None, 0, 0), (31, buffer, 99), (3, key), (7, SESSION), (2, key, b"v", 1), (99, 0),
+        (19, key, 1, 129, 0), (20, key, None, 0, 0), (31, buffer, 99), (3, key), (7, SESSION), (2, key, b"v", 1), (4, key, 0, 0), (5, key, 0),
+        (17, key, buffer, 99), (21, key), (30, key, SESSION, USER, 0), (99, 0),
     ]:
         print(number, call("keyctl", number, *words))
     another = call("keyctl", 1, None)

@@ -57,11 +57,10 @@ static ssize_t fuzz_pwrite(int descriptor, const void *from, size_t size, off_t 
 #include "../../clients/trap/memory.c"
 #include "../../clients/c/reqkey.c"
 #include "../../clients/trap/answer.h"
+#include "../../clients/keyutils/learned.h"
 #include "../../clients/keyutils/session.h"
 #include "../../clients/trap/calls_of.h"
-#include "../../clients/trap/rings.h"
 #include "../../clients/trap/session.h"
-#include "../../clients/trap/sets.h"
 
 /* ---- what the rest of the trap does */
 
@@ -92,8 +91,9 @@ static int errno_of_result(int result)
 
 struct reqkey *session_begin(int32_t key)
 {
-    errno = key < 0 ? EOPNOTSUPP : ECONNREFUSED;
-    return key < 0 || next_turn() % 30 == 0 ? NULL : session;
+    (void)key;
+    errno = ECONNREFUSED;
+    return next_turn() % 30 == 0 ? NULL : session;
 }
 
 long session_end(int result)
@@ -139,18 +139,37 @@ bool session_setting(int setting)
     return next_turn() % 30 != 0;
 }
 
-void rings_lock(void)
+/* Users of a container are told as its uids. */
+uint32_t session_shown(uint32_t user)
 {
+    return user >= 3000000000 ? user - 3000000000 : user;
 }
 
-void rings_unlock(void)
+uint32_t session_uid(void)
 {
+    return 1000;
 }
 
-uint32_t set_uid(const struct set *set, uint32_t number)
+bool session_is_own(uint32_t user)
 {
-    (void)set;
-    return number >= 3000000000 ? number - 3000000000 : number;
+    return session_shown(user) == session_uid();
+}
+
+const char *session_ring_name(void)
+{
+    return "_ses";
+}
+
+static struct learned learned;
+
+void session_learns(int32_t key)
+{
+    learn(&learned, key);
+}
+
+bool session_has_learned(int32_t key)
+{
+    return has_learned(&learned, key);
 }
 
 /* ---- calls */
