@@ -14,7 +14,7 @@ from programs import ran, top
 count = Counted()
 FLAGS = ["-std=gnu11", "-D_GNU_SOURCE", "-g", "-O1", "-fsanitize=fuzzer,address,undefined", "-fno-sanitize-recover=all"]
 NOTHING = "int LLVMFuzzerTestOneInput(const unsigned char *data, unsigned long size) { return data == 0 && size > 0; }\n"
-LIBRARY = ["trap/answer.c", *(f"keyutils/{name}.c" for name in ["attributes", "calls", "left_out", "on_key", "raw", "types", "words"])]
+LIBRARY = ["trap/answer.c", "trap/kernel.c", *(f"keyutils/{name}.c" for name in ["attributes", "calls", "left_out", "on_key", "raw", "types", "words"])]
 
 # Each target: how many runs, and what it is linked with.
 TARGETS = {"reply": (20000, []), "program": (40000, LIBRARY), "state": (200000, []), "door": (1500, [])}

@@ -25,7 +25,7 @@ import protocol_peer as peer
 from compiled import library, made_twice
 from counted import Counted
 from daemon import Daemon, until
-from keyctl_commands import ALONE, CASES, Keyctl
+from keyctl_commands import ABSENT, ALONE, CASES, LEFT_OUT, MISSING, REVOKED, Keyctl
 from programs import LIMIT, PROGRAMS, lacks, ran, started, there, top
 from trap import Inside, Listening, Trap, environment, notifies, statically
 
@@ -152,6 +152,32 @@ def supervisor_of(process):
                     return int(path.parent.name)
         return None
     return until(child, "a supervisor")
+
+
+# Calls by the letters of the kernel: its key is there by its serial, also for those calls that the daemon leaves out, and others are the daemon's.
+KERNELS = """
+key=$(keyctl add logon a:b v @s); ours=$(keyctl add user k v @s)
+keyctl rdescribe $key | cut -d ';' -f 1,5; keyctl print $key; [ "$(keyctl search @s logon a:b)" = $key ] && echo found
+[ "$(keyctl request logon a:b)" = $key ] && echo found
+keyctl update $key w && keyctl setperm $key 0x3f3f0000 && keyctl timeout $key 1000 && keyctl link $key @u && keyctl unlink $key @u && echo done
+keyctl rdescribe $ours; keyctl update $ours w; keyctl print %user:k; keyctl print 2000000000; keyctl add encrypted e 'new none:n 32' @s
+keyctl revoke $key; keyctl update $key w; keyctl unlink $key @s; keyctl unlink $key @s
+"""
+
+
+def kernels(trap):
+    """Types that are left to the kernel."""
+    if lacks("types that are left to the kernel", "keyctl") or ran("keyctl", "session", "-", "keyctl", "add", "logon", "a:b", "v", "@s")[0]:
+        print("types that are left to the kernel: not tried, it has no keys for this program")
+        return
+    words = ["keyctl", "session", "-", trap.program, "--kernel", "fscrypt-provisioning,logon", *trap.words()[1:], "sh", "-c", KERNELS]
+    status, output, errors = ran(*words, text=True, env=environment())
+    count.same("types that are left to the kernel", (status, output.split("\n")[:-1]), (1, ["logon;a:b", "found", "found", "done", f"user;{UID};-1;3f000000;k", "v"]))
+    count.same("what it refuses of them", [line.partition(": ")[2] for line in errors.split("\n")[1:-1]], [LEFT_OUT, LEFT_OUT, MISSING, LEFT_OUT, REVOKED, ABSENT])
+    inner = trap.run(trap.program, "--kernel", "logon", "true")
+    count.same("a trap in a trap can't", inner, (1, "", "reqkey-trap: --kernel: another supervisor answers for this process\n"))
+    for types in ["", ",", "logon,", "l" * 32]:
+        count.same(f"--kernel '{types}'", trap.run("true", options=["--kernel", types])[0], 2)
 
 
 def stays(trap, program):
@@ -383,6 +409,7 @@ def tries(daemon_program, trap_program, program, room):
         trap = Trap(trap_program, daemon.path)
         commands(trap)
         subjects(trap, daemon, program)
+        kernels(trap)
         narrow(trap, daemon.room)
         users(trap, daemon, daemon.room / "trapped")
         stays(trap, program)

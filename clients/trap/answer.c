@@ -5,10 +5,12 @@
 #include "../keyutils/words.h"
 #include "caller.h"
 #include "calls_of.h"
+#include "kernel.h"
 #include "memory.h"
 #include "session.h"
 
 #include <errno.h>
+#include <stdbool.h>
 #include <string.h>
 
 /* Bytes: a name with its zero byte, as the kernel allows it; what a call gives; and parts of a payload. */
@@ -41,6 +43,8 @@ static long told(long result)
 static long answer_add_key(const uint64_t *a)
 {
     int fault = memory_text(room.in.type, a[0], TYPE);
+    if (fault == 0 && kernel_has(room.in.type))
+        return ANSWER_GOES_ON;
     if (fault == 0)
         fault = a[1] == 0 ? -EINVAL : memory_text(room.in.description, a[1], DESCRIPTION);
     if (fault == 0)
@@ -51,6 +55,8 @@ static long answer_add_key(const uint64_t *a)
 static long answer_request_key(const uint64_t *a)
 {
     int fault = memory_text(room.in.type, a[0], TYPE);
+    if (fault == 0 && kernel_has(room.in.type))
+        return ANSWER_GOES_ON;
     if (fault == 0)
         fault = memory_text(room.in.description, a[1], DESCRIPTION);
     if (fault == 0 && a[2] != 0)
@@ -61,6 +67,8 @@ static long answer_request_key(const uint64_t *a)
 static long answer_search(const uint64_t *a)
 {
     int fault = memory_text(room.in.type, a[1], TYPE);
+    if (fault == 0 && kernel_has(room.in.type))
+        return ANSWER_GOES_ON;
     if (fault == 0)
         fault = memory_text(room.in.description, a[2], DESCRIPTION);
     return fault < 0 ? fault : told(keyctl_search((key_serial_t)a[0], room.in.type, room.in.description, (key_serial_t)a[3]));
@@ -196,6 +204,23 @@ static long answer_keyctl(uint32_t command, const uint64_t *a)
     }
 }
 
+/* Whether the first argument of a command is a key. */
+static bool is_on_key(uint32_t command)
+{
+    static const uint32_t KEYS = 1U << KEYCTL_GET_KEYRING_ID | 1U << KEYCTL_UPDATE | 1U << KEYCTL_REVOKE | 1U << KEYCTL_CHOWN | 1U << KEYCTL_SETPERM |
+                                 1U << KEYCTL_DESCRIBE | 1U << KEYCTL_CLEAR | 1U << KEYCTL_LINK | 1U << KEYCTL_UNLINK | 1U << KEYCTL_SEARCH |
+                                 1U << KEYCTL_READ | 1U << KEYCTL_SET_TIMEOUT | 1U << KEYCTL_GET_SECURITY | 1U << KEYCTL_INVALIDATE | 1U << KEYCTL_MOVE;
+    return command < 32 && (KEYS >> command & 1) != 0;
+}
+
+/* A key that the daemon does not have is the kernel's, where some are left to it. */
+static long on_key(uint32_t command, const uint64_t *a, long result)
+{
+    key_serial_t key = (key_serial_t)a[0];
+    bool unknown = kernel_has_any() && result == -ENOKEY && is_on_key(command) && key > 0;
+    return unknown && told(keyctl_describe(key, NULL, 0)) == -ENOKEY ? ANSWER_GOES_ON : result;
+}
+
 long answer(int listener, struct set *set, const struct seccomp_notif *call)
 {
     uint64_t a[6];
@@ -210,7 +235,7 @@ long answer(int listener, struct set *set, const struct seccomp_notif *call)
             result = answer_request_key(a);
             break;
         case CALL_KEYCTL:
-            result = answer_keyctl((uint32_t)a[0], a + 1);
+            result = on_key((uint32_t)a[0], a + 1, answer_keyctl((uint32_t)a[0], a + 1));
             break;
         case CALL_OTHER:
             result = -ENOSYS;

@@ -10,6 +10,7 @@
 #define ANSWER_H
 
 #include <linux/seccomp.h>
+#include <stdint.h>
 
 struct set;
 
@@ -18,7 +19,17 @@ enum { ANSWER_SOCKET = 0x74726170 };
 /* What ANSWER_SOCKET tells. */
 void answer_socket(const char *path);
 
-/* What this call answers, from this listener, whose programs find this set: 0 or more, or a negative errno. */
+enum { ANSWER_GOES_ON = INT32_MIN }; /* the call goes on in the kernel (kernel.h) */
+
+/* What this call answers, from this listener, whose programs find this set: 0 or more, or a negative errno, or ANSWER_GOES_ON. */
 long answer(int listener, struct set *set, const struct seccomp_notif *call);
+
+/* The reply to a call that says so. */
+static inline struct seccomp_notif_resp answer_reply(uint64_t call, long result)
+{
+    if (result == ANSWER_GOES_ON)
+        return (struct seccomp_notif_resp){.id = call, .flags = SECCOMP_USER_NOTIF_FLAG_CONTINUE};
+    return (struct seccomp_notif_resp){.id = call, .val = result < 0 ? 0 : result, .error = result < 0 ? (int32_t)result : 0};
+}
 
 #endif

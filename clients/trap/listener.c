@@ -104,7 +104,7 @@ static void *serve(void *of)
     while (stays && receive(listener, &call)) {
         more(listener);
         long result = answer(listener->descriptor, listener->set, &call);
-        struct seccomp_notif_resp reply = {.id = call.id, .val = result < 0 ? 0 : result, .error = result < 0 ? (int)result : 0};
+        struct seccomp_notif_resp reply = answer_reply(call.id, result);
         ioctl(listener->descriptor, SECCOMP_IOCTL_NOTIF_SEND, &reply); /* ENOENT: the caller is gone */
         stays = less(listener);
     }

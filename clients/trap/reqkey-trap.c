@@ -9,12 +9,14 @@
  *     memory.h      the caller's memory                 session.c    the library's session.h for the caller
  *     processes.h   which ring a process is in          rings.h      rings, and connections to the daemon
  *     sets.h        what each container has             handler.h    the session of a handler
- *     calls_of.h    the numbers of the system calls     descriptors.h
+ *     calls_of.h    the numbers of the system calls     kernel.h     types that are left to the kernel
+ *     shown.h       the uids that the caller is told    descriptors.h
  *
  * What a call does is ../keyutils/calls.c, as in the library.
  */
 #include "answer.h"
 #include "handler.h"
+#include "kernel.h"
 #include "listen.h"
 #include "rings.h"
 #include "supervise.h"
@@ -32,18 +34,19 @@
 
 enum { FAULT = 1, MISUSE = 2 };
 
-static const char USAGE[] = "Usage: reqkey-trap [--socket <PATH>] [--] <PROGRAM> [WORDS]...\n"
-                            "       reqkey-trap --key <KEY> [--] <HANDLER> [WORDS]...\n"
-                            "       reqkey-trap --listen <PATH> [--socket <PATH>]\n";
+static const char USAGE[] = "Usage: reqkey-trap [--socket <PATH>] [--kernel <TYPES>] [--] <PROGRAM> [WORDS]...\n"
+                            "       reqkey-trap --key <KEY> [--kernel <TYPES>] [--] <HANDLER> [WORDS]...\n"
+                            "       reqkey-trap --listen <PATH> [--socket <PATH>] [--kernel <TYPES>]\n";
 
 static const char HELP[] = "Runs a program whose system calls add_key, request_key and keyctl a request_key daemon answers.\n\n"
                            "%s\n"
                            "Options:\n"
-                           "      --socket <PATH>  The socket of the daemon; without it, that of the environment, REQKEYD_SOCKET\n"
-                           "      --key <KEY>      Run a handler of the daemon, with the authority over this key assumed\n"
-                           "      --listen <PATH>  Answer for containers, whose runtime connects to this socket\n"
-                           "  -h, --help           Print help\n"
-                           "  -V, --version        Print version\n\n"
+                           "      --socket <PATH>   The socket of the daemon; without it, that of the environment, REQKEYD_SOCKET\n"
+                           "      --key <KEY>       Run a handler of the daemon, with the authority over this key assumed\n"
+                           "      --listen <PATH>   Answer for containers, whose runtime connects to this socket\n"
+                           "      --kernel <TYPES>  Leave keys of these types to the kernel, with its own rings: logon,encrypted\n"
+                           "  -h, --help            Print help\n"
+                           "  -V, --version         Print version\n\n"
                            "Status: that of the program, or 128 and the number of the signal that killed it; 127 if there is no such program, 126 if it\n"
                            "can't be started, 1 if the daemon can't be reached or the program can't be put under a filter, 2 for a usage error.\n";
 
@@ -52,7 +55,7 @@ static const char HELP[] = "Runs a program whose system calls add_key, request_k
 #endif
 
 struct words {
-    const char *socket, *key, *listen;
+    const char *socket, *key, *listen, *kernel;
     char **program;
 };
 
@@ -66,8 +69,9 @@ static int fault(const char *what, const char *why)
 static int read_words(int count, char **words, struct words *told)
 {
     static const struct option OPTIONS[] = {{"socket", required_argument, NULL, 's'}, {"key", required_argument, NULL, 'k'},
-                                            {"listen", required_argument, NULL, 'l'}, {"help", no_argument, NULL, 'h'},
-                                            {"version", no_argument, NULL, 'V'},      {NULL, 0, NULL, 0}};
+                                            {"listen", required_argument, NULL, 'l'}, {"kernel", required_argument, NULL, 'n'},
+                                            {"help", no_argument, NULL, 'h'},         {"version", no_argument, NULL, 'V'},
+                                            {NULL, 0, NULL, 0}};
     for (int option; (option = getopt_long(count, words, "+hV", OPTIONS, NULL)) >= 0;)
         switch (option) {
         case 's':
@@ -79,6 +83,9 @@ static int read_words(int count, char **words, struct words *told)
         case 'l':
             told->listen = optarg;
             break;
+        case 'n':
+            told->kernel = optarg;
+            break;
         case 'h':
             return printf(HELP, USAGE) < 0;
         case 'V':
@@ -89,6 +96,7 @@ static int read_words(int count, char **words, struct words *told)
         }
     told->program = words + optind;
     bool right = told->listen != NULL ? optind == count && told->key == NULL : optind < count && (told->key == NULL || told->socket == NULL);
+    right = right && (told->kernel == NULL || kernel_takes(told->kernel));
     if (!right)
         fputs(USAGE, stderr);
     return right ? -1 : MISUSE;
@@ -114,6 +122,8 @@ static int run_inside(const char *socket, char **words)
         return -1;
     if (socket != NULL && strcmp(socket, others) != 0)
         return fault("another supervisor answers for this process, for the daemon at", others);
+    if (kernel_has_any())
+        return fault("--kernel", "another supervisor answers for this process");
     if (syscall(SYS_keyctl, 1 /* KEYCTL_JOIN_SESSION_KEYRING */, NULL) < 0)
         return fault("a new session ring", strerror(errno));
     execvp(words[0], words);
@@ -157,7 +167,7 @@ static int run_program(const char *socket, char **words)
 
 int main(int count, char **words)
 {
-    struct words told = {NULL, NULL, NULL, words};
+    struct words told = {NULL, NULL, NULL, NULL, words};
     fill_streams();
     int status = read_words(count, words, &told);
     if (status >= 0)
