@@ -61,7 +61,8 @@ PRINTED = {
     "hostile": [
         "nowhere 1 5", *["nowhere 1 14"] * 6, "type without end EINVAL", "description without end EFAULT", "description that is too long EINVAL",
         "description to the end of its page done", "payload over the end EFAULT", "payload to the end done", "payload of any length EINVAL",
-        "payload of 32768 EINVAL", "parts EINVAL", "parts without number EINVAL", "read only done", "read over the end EFAULT", "changing 0", "after done",
+        "payload of 32768 EINVAL", "parts EINVAL", "parts without number EINVAL", "read only EFAULT", "unreadable payload EFAULT", "unreadable text EFAULT",
+        "unreadable buffer EFAULT", "guarded buffer EFAULT", "readable payload done", "guarded description EFAULT", "writable done", "read over the end EFAULT", "changing 0", "after done",
     ],
     "rings": ["late 0", "early 0", "named 0", "quota EDQUOT 1", "name without letters EINVAL", "name with a dot EPERM"],
     "waiting": ["meanwhile done", "killed 1", "both 1"],
@@ -178,6 +179,17 @@ def kernels(trap):
     count.same("a trap in a trap can't", inner, (1, "", "reqkey-trap: --kernel: another supervisor answers for this process\n"))
     for types in ["", ",", "logon,", "l" * 32]:
         count.same(f"--kernel '{types}'", trap.run("true", options=["--kernel", types])[0], 2)
+
+
+def namespaces(run, way):
+    """What a program of a user namespace is told of its uid: that of its namespace, and 65534 if it has none there."""
+    if lacks("keys in a user namespace", "keyctl", "unshare") or ran("unshare", "--user", "--map-user=77", "true")[0]:
+        print("keys in a user namespace: not tried, there is none to be had")
+        return
+    for options, uid in [(["--map-user=77"], 77), ([], 65534)]:
+        script = "keyctl add user k v @s > /dev/null; keyctl rdescribe %user:k; keyctl rdescribe @s; keyctl rdescribe @u"
+        lines = f"user;{uid};-1;3f000000;k\nkeyring;{uid};-1;3f000000;_ses\nkeyring;{uid};-1;3f000000;_uid.{uid}\n"
+        count.same(f"a user namespace {options} in a {way}", run("unshare", "--user", *options, "sh", "-c", script), (0, lines, ""))
 
 
 def stays(trap, program):
@@ -378,6 +390,7 @@ def contained(trap, daemon, program, log):
                     count.same("another container", each.run("keyctl", "print", key)[0:2], (1, ""))
                     count.same("its name", each.run("keyctl", "print", "%user:mine"), (1, "", "Can't find 'user:mine'\n"))
                 count.same("its uid", web.run("keyctl", "rdescribe", key), (0, f"user;{UID};-1;3f000000;mine\n", ""))
+                namespaces(web.run, "container")
                 asked = [(each, each.run("keyctl", "request2", "user", "whose:", "x", "@s")[1].strip()) for each in [web, again, other]]
                 users = [int(each.run("keyctl", "pipe", key)[1]) for each, key in asked]
                 count.same("who their handlers are for", (users[0] == users[1], users[0] == users[2], min(users) >= 3000000000), (True, False, True))
@@ -410,6 +423,7 @@ def tries(daemon_program, trap_program, program, room):
         commands(trap)
         subjects(trap, daemon, program)
         kernels(trap)
+        namespaces(trap.run, "trap")
         narrow(trap, daemon.room)
         users(trap, daemon, daemon.room / "trapped")
         stays(trap, program)
@@ -754,8 +768,8 @@ def main():
         room.chmod(0o755)
         program = statically(count, room)
         analyzed()
-        # (one asks the kernel as before Linux 6.13, too)
-        traps = [each for each in made_twice(count, "trap", room, "-DASKS_PIDFD=0") if each is not None]
+        # (one asks the kernel as before Linux 6.11 and 6.13, too)
+        traps = [each for each in made_twice(count, "trap", room, "-DASKS_PIDFD=0", "-DASKS_MAPS=0") if each is not None]
         for trap_program in traps:
             alone(trap_program, room, trap_program == traps[0])
         for daemon_program in there(count):

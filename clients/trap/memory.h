@@ -2,8 +2,8 @@
  * The caller's memory (caller.h). The program is not trusted: its pointers may lead nowhere, its strings may have no end, and its other threads may write while
  * this reads. So every byte is copied once, and looked at here.
  *
- * Each returns 0 or a negative errno: EFAULT where nothing is mapped, ESRCH if the caller is gone. EPERM says that this process may not look into that
- * one: as ptrace(2) has it, if it is not dumpable or another user's.
+ * Each returns 0 or a negative errno: EFAULT where the program itself may not read or write, ESRCH if the caller is gone. EPERM says that this process may not
+ * look into that one: as ptrace(2) has it, if it is not dumpable or another user's.
  */
 #ifndef MEMORY_H
 #define MEMORY_H

@@ -10,7 +10,8 @@
  *     processes.h   which ring a process is in          rings.h      rings, and connections to the daemon
  *     sets.h        what each container has             handler.h    the session of a handler
  *     calls_of.h    the numbers of the system calls     kernel.h     types that are left to the kernel
- *     shown.h       the uids that the caller is told    descriptors.h
+ *     shown.h       the uids that the caller is told    mappings.h   what the caller may write
+ *     descriptors.h
  *
  * What a call does is ../keyutils/calls.c, as in the library.
  */

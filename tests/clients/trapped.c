@@ -124,6 +124,17 @@ static void hostile(void)
     show("parts", KEYCTL(IOV, key, parts, 2L, 0L));
     show("parts without number", KEYCTL(IOV, key, parts, SIZE_MAX, 0L));
     show("read only", KEYCTL(READ, key, "constant", 64L));
+    memset(page, 0, 4096);
+    mprotect(page, 4096, PROT_NONE);
+    show("unreadable payload", add("n", page, 6, SESSION));
+    show("unreadable text", add(page, "v", 1, SESSION));
+    show("unreadable buffer", KEYCTL(READ, key, page, 64L));
+    show("guarded buffer", KEYCTL(READ, key, page - 4, 64L));
+    mprotect(page, 4096, PROT_READ);
+    show("readable payload", add("n", page, 6, SESSION));
+    show("guarded description", KEYCTL(DESCRIBE, key, page - 4, 64L));
+    mprotect(page, 4096, PROT_READ | PROT_WRITE);
+    show("writable", KEYCTL(READ, key, page - 4, 64L));
     show("read over the end", KEYCTL(READ, key, page + 4094, 64L));
     int running = 1;
     long counts[2] = {0, 0};

@@ -3,10 +3,12 @@
  * input: pages that are mapped or not, of other bytes at each read. Whatever it is, each call answers a result or an errno, no byte is touched that is not
  * there, and no more is written into the program than it has said that there is room for.
  */
+#include <errno.h>
 #include <fcntl.h>
 #include <stdbool.h>
 #include <stdint.h>
 #include <stdio.h>
+#include <sys/uio.h>
 #include <sys/un.h>
 #include <unistd.h>
 
@@ -38,6 +40,21 @@ static ssize_t fuzz_pread(int descriptor, void *to, size_t size, off_t from)
     return (ssize_t)size;
 }
 
+/* Like fuzz_pread, or as a kernel that is built without it. */
+static ssize_t fuzz_across(void *to, uint64_t from, size_t size)
+{
+    static const int ERRORS[] = {ENOSYS, ESRCH, EPERM};
+    unsigned how = next_turn() % 20;
+    ssize_t done = how < 3 ? -1 : fuzz_pread(1000, to, size, (off_t)from);
+    errno = how < 3 ? ERRORS[how] : done < 0 ? EFAULT : 0;
+    return done;
+}
+
+bool mappings_are_writable(uint64_t at, size_t length)
+{
+    return length > 0 && is_mapped(at);
+}
+
 static ssize_t fuzz_pwrite(int descriptor, const void *from, size_t size, off_t to)
 {
     (void)to;
@@ -50,6 +67,7 @@ static ssize_t fuzz_pwrite(int descriptor, const void *from, size_t size, off_t 
 #define open fuzz_open
 #define pread fuzz_pread
 #define pwrite fuzz_pwrite
+#define process_vm_readv(thread, here, one, there, another, flags) fuzz_across((here)->iov_base, (uint64_t)(there)->iov_base, (here)->iov_len)
 #define close(descriptor) ((void)(descriptor))
 #define read fuzz_read
 #define write fuzz_write
