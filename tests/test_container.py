@@ -19,6 +19,11 @@ from trap import Listening, Trap, environment, notifies
 count = Counted()
 CALLS = ["add_key", "request_key", "keyctl"]
 PATH = "PATH=/usr/sbin:/usr/bin:/sbin:/bin"
+RUNTIMES, PLACES = ["crun", "runc"], "/usr/bin:/usr/sbin:/usr/local/bin"
+
+# A user without rights, and what starts words as this one.
+USER = 1000
+AS_USER = ["setpriv", f"--reuid={USER}", f"--regid={USER}", "--clear-groups"]
 
 # What a container does until it gets the word to end.
 WAITS = "keyctl add user k mine @u > /dev/null; touch /tmp/ready; while [ ! -e /tmp/end ]; do sleep 0.05; done; keyctl print %user:later"
@@ -54,16 +59,18 @@ class Container:
             if os.path.islink(f"/{link}"):
                 (self.root / link).symlink_to(f"usr/{link}")
 
-    def write(self, *words, filtered=True):
-        """The container's configuration, for these words; with a filter, or without."""
+    def write(self, *words, filtered=True, mapped=False):
+        """The container's configuration, for these words; with a filter or without, and in a user namespace or not."""
         mounts = [
             {"destination": "/proc", "type": "proc", "source": "proc"},
             {"destination": "/dev", "type": "tmpfs", "source": "tmpfs", "options": ["nosuid", "mode=755", "size=65536k"]},
             {"destination": "/usr", "type": "bind", "source": "/usr", "options": ["bind", "ro"]},
         ]
         process = {"terminal": False, "user": {"uid": 0, "gid": 0}, "args": list(words), "env": [PATH], "cwd": "/", "noNewPrivileges": True}
-        namespaces = [{"type": kind} for kind in ["pid", "network", "ipc", "uts", "mount"]]
+        namespaces = [{"type": kind} for kind in ["pid", "network", "ipc", "uts", "mount", *(["user"] if mapped else [])]]
         linux = {"namespaces": namespaces, **({"seccomp": profile(self.listener)} if filtered else {})}
+        if mapped:
+            linux.update({f"{kind}Mappings": [{"containerID": 0, "hostID": USER, "size": 1}] for kind in ["uid", "gid"]})
         config = {"ociVersion": "1.0.0", "process": process, "root": {"path": "rootfs", "readonly": False}, "mounts": mounts, "linux": linux}
         (self.room / "config.json").write_text(json.dumps(config))
 
@@ -80,7 +87,7 @@ class Runtime:
 
     def __init__(self, name, state):
         self.name, self.state = name, state
-        self.words = [name, "--root", str(state), *(["--cgroup-manager=disabled"] if name == "crun" else [])]
+        self.words = [shutil.which(name, path=PLACES), "--root", str(state), *(["--cgroup-manager=disabled"] if name == "crun" else [])]
 
     def made(self, container, *words):
         """What makes a container, and runs words in it."""
@@ -99,6 +106,20 @@ class Runtime:
         return ran(*wrapped(*self.words, "exec", container.name, *words), text=True, cwd=container.room)
 
 
+class Rootless(Runtime):
+    """The same by a user without rights, in a user namespace in which this one is root."""
+
+    def __init__(self, name, state):
+        super().__init__(name, state)
+        self.name = f"{name} without root"
+        self.words = [*AS_USER, *self.words]
+
+    def made(self, container, *words):
+        container.write(*words, mapped=True)
+        ran("chown", "-R", f"{USER}:{USER}", container.room)
+        return wrapped(*self.words, "run", container.name)
+
+
 class Podman(Runtime):
     """podman over one of the runtimes."""
 
@@ -107,7 +128,7 @@ class Podman(Runtime):
         self.profile = state / "profile.json"
         self.words = [
             "podman", "--root", str(state / "root"), "--runroot", str(state / "run"), "--tmpdir", str(state / "tmp"), "--storage-driver", "vfs",
-            "--cgroup-manager", "cgroupfs", "--events-backend", "file", "--log-level", "error", "--runtime", shutil.which(over, path="/usr/bin:/usr/sbin"),
+            "--cgroup-manager", "cgroupfs", "--events-backend", "file", "--log-level", "error", "--runtime", shutil.which(over, path=PLACES),
         ]
 
     def made(self, container, *words):
@@ -132,34 +153,66 @@ def tries(runtime, room, listener):
     runs = runtime.start(web, "sh", "-c", WAITS)
     until(lambda: (web.root / "tmp" / "ready").exists() or runs.poll() is not None, "a container")
     count.same(f"{runtime.name}: another container", runtime.run(other, "keyctl", "print", "%user:k"), (1, "", "Can't find 'user:k'\n"))
-    count.same(f"{runtime.name}: what is started later", runtime.more(web, "keyctl", "print", "%user:k"), (0, "mine\n", ""))
-    count.same(f"{runtime.name}: and adds a key", runtime.more(web, "keyctl", "add", "user", "later", "told", "@u")[0], 0)
+    status, _, errors = runtime.more(web, "true")
+    if status == 0:
+        count.same(f"{runtime.name}: what is started later", runtime.more(web, "keyctl", "print", "%user:k"), (0, "mine\n", ""))
+        count.same(f"{runtime.name}: and adds a key", runtime.more(web, "keyctl", "add", "user", "later", "told", "@u")[0], 0)
+    else:
+        print(f"what is started later by {runtime.name}: not tried, it starts nothing in a container here: {errors.strip()[:200]}")
     (web.root / "tmp" / "end").touch()
     output, errors = runs.communicate(timeout=LIMIT)
-    count.same(f"{runtime.name}: the container finds it", (runs.returncode, output, errors), (0, "told\n", ""))
+    found = (0, "told\n", "") if status == 0 else (1, "", "Can't find 'user:later'\n")
+    count.same(f"{runtime.name}: the container finds it", (runs.returncode, output, errors), found)
 
 
 def within(program, socket, room):
-    """crun itself in a trap: its containers have the trap's rings, each a session ring of its own."""
-    if not shutil.which("crun"):
+    """A runtime itself in a trap: its containers have the trap's rings, each a session ring of its own, which runc describes and sets the permissions of."""
+    for name in RUNTIMES:
+        if lacks(f"{name} in a trap", name, path=PLACES):
+            continue
+        place = room / f"within-{name}"
+        place.mkdir()
+        runtime, container = Runtime(name, place / "state"), Container(place, "alone", "")
+        container.write("sh", "-c", "keyctl id @s; keyctl add user k v @s > /dev/null; keyctl print %user:k", filtered=False)
+        if ran(*wrapped(*runtime.words, "run", container.name), text=True, cwd=container.room)[0] != 0:
+            print(f"{name} in a trap: not tried, it starts none here")
+            continue
+        words = " ".join(f"'{word}'" for word in wrapped(*runtime.words, "run", container.name))
+        status, output, errors = Trap(program, socket).run("sh", "-c", f"keyctl id @s; cd {container.room} && {words}")
+        lines = output.split()
+        count.same(f"{name} in a trap", (status, len(set(lines)), lines[2:], errors), (0, 3, ["v"], ""))
+
+
+def unrooted(trapping, daemon, room):
+    """Containers, and their trap, of a user without rights: crun and runc in a user namespace, and bwrap, which runs in a trap."""
+    if lacks("containers without root", "setpriv") or ran(*AS_USER, "unshare", "--user", "--map-root-user", "true")[0]:
+        print("containers without root: not tried, there is no user namespace to be had")
         return
-    (room / "within").mkdir()
-    runtime, container = Runtime("crun", room / "within" / "state"), Container(room / "within", "alone", "")
-    container.write("sh", "-c", "keyctl id @s; keyctl add user k v @s > /dev/null; keyctl print %user:k", filtered=False)
-    words = " ".join(f"'{word}'" for word in wrapped(*runtime.words, "run", container.name))
-    script = f"keyctl id @s; cd {container.room} && {words}"
-    status, output, errors = Trap(program, socket).run("sh", "-c", script)
-    if status != 0:
-        print(f"crun in a trap: not tried, it starts none here: {errors.strip()[:200]}")
-        return
-    outer, inner, payload = output.split()
-    count.same("crun in a trap", (outer != inner, payload), (True, "v"))
+    daemon.path.chmod(0o777)
+    for folder in [daemon.room, room]:
+        folder.chmod(0o755)
+    place = room / "unrooted"
+    place.mkdir()
+    os.chown(place, USER, USER)
+    with Listening(count, trapping, daemon, environment(), place, AS_USER) as listening:
+        for name in RUNTIMES:
+            if not lacks(f"{name} without root", name, path=PLACES):
+                (place / name).mkdir()
+                os.chown(place / name, USER, USER)
+                tries(Rootless(name, place / name / "state"), place / name, listening.path)
+        listening.process.kill()
+        count.same("what it says without root", listening.process.stderr.read(), "")
+    if not lacks("bwrap in a trap", "bwrap"):
+        script = "id -u; keyctl print $(keyctl request2 user made:a hello @s); keyctl add user k v @u > /dev/null; keyctl rdescribe %user:k; keyctl rdescribe @s"
+        words = ["bwrap", "--ro-bind", "/", "/", "--dev", "/dev", "--proc", "/proc", "--unshare-all", "--uid", "77", "sh", "-c", script]
+        lines = "77\nhello\nuser;77;-1;3f000000;k\nkeyring;77;-1;3f000000;_ses\n"
+        count.same("bwrap in a trap", ran(*AS_USER, *Trap(trapping, daemon.path).words(*words), text=True, env=environment()), (0, lines, ""))
 
 
 def runtimes(room):
     """Those that are here."""
-    for name in ["crun", "runc"]:
-        if lacks(f"containers by {name}", name, path="/usr/bin:/usr/sbin:/usr/local/bin"):
+    for name in RUNTIMES:
+        if lacks(f"containers by {name}", name, path=PLACES):
             continue
         (room / name).mkdir()
         yield Runtime(name, room / name / "state"), room / name
@@ -182,6 +235,7 @@ def main():
                 for runtime, place in runtimes(room):
                     tries(runtime, place, listening.path)
                 within(trapping, daemon.path, room)
+                unrooted(trapping, daemon, room)
                 listening.process.kill()
                 count.same("what it says", listening.process.stderr.read(), "")
     count.end()
