@@ -7,13 +7,14 @@ A container sees this machine's /usr, so no image is needed. What needs a progra
 import json
 import os
 import pathlib
+import re
 import shutil
 import tempfile
 
 from compiled import made
 from counted import Counted
 from daemon import Daemon, until
-from programs import LIMIT, PROGRAMS, lacks, ran, started, there
+from programs import LIMIT, PROGRAMS, lacks, ran, started, there, top
 from trap import Listening, Trap, environment, notifies
 
 count = Counted()
@@ -209,6 +210,60 @@ def unrooted(trapping, daemon, room):
         count.same("bwrap in a trap", ran(*AS_USER, *Trap(trapping, daemon.path).words(*words), text=True, env=environment()), (0, lines, ""))
 
 
+# How podman is set up for a test, and the script around the lines of a document: /run and /etc are this test's own.
+STORAGE = '[storage]\ndriver = "vfs"\ngraphroot = "%room/root"\nrunroot = "%room/run"\n'
+ENGINE = """[containers]
+netns = "none"
+cgroups = "disabled"
+default_ulimits = ["nofile=1024:1024", "nproc=1024:1024"]
+[engine]
+cgroup_manager = "cgroupfs"
+events_logger = "file"
+tmp_dir = "%room/tmp"
+"""
+LINES_AROUND = """set -e
+mount --make-rprivate / && mount -t tmpfs tmpfs /run && mount -t overlay overlay -o lowerdir=/etc,upperdir=%room/etc,workdir=%room/work /etc
+cp %conf /etc/reqkeyd.conf
+tar -C %room/image -c . | podman import - localhost/keys > /dev/null 2>&1
+%lines
+kill %1 %2
+"""
+
+
+def image(folder):
+    """The root of a container that has keyctl, and nothing else."""
+    for path in [shutil.which("keyctl"), *re.findall(r"(/\S+) \(", ran("ldd", shutil.which("keyctl"), text=True)[1])]:
+        (folder / path[1:]).parent.mkdir(parents=True, exist_ok=True)
+        shutil.copy(path, folder / path[1:])
+
+
+def documented(program, trapping, room):
+    """The lines of docs/PROGRAMS.md for podman, as they are written there, but for the name of the image; and its profile."""
+    block = re.search(r"^```\n(\{.*?)^```", (top / "docs" / "PROGRAMS.md").read_text(), re.DOTALL | re.MULTILINE)[1]
+    text, lines = re.split(r"\n\n(?=\$ )", block)
+    count.same("the profile of docs/PROGRAMS.md", json.loads(text), profile("/run/keys/listen"))
+    stock = "/usr/share/containers/seccomp.json"
+    if lacks("the lines of docs/PROGRAMS.md", "podman", "crun", "jq") or not os.path.exists(stock):
+        return
+    for name in ["bin", "etc", "work", "image"]:
+        (room / name).mkdir(parents=True)
+    for name, path in [("reqkeyd", program), ("reqkey-trap", trapping)]:
+        (room / "bin" / name).symlink_to(path)
+    image(room / "image")
+    for name, how in [("storage.conf", STORAGE), ("containers.conf", ENGINE)]:
+        (room / name).write_text(how.replace("%room", str(room)))
+    lines = re.sub(r"^[#$] ", "", lines, flags=re.MULTILINE).replace("IMAGE", "localhost/keys")
+    lines = re.sub(r"(--(?:listen|socket) (\S+).* &)$", r"\1\nuntil [ -S \2 ]; do sleep 0.05; done", lines, flags=re.MULTILINE)
+    script = LINES_AROUND.replace("%lines", lines).replace("%conf", str(top / "packaging" / "reqkeyd.conf")).replace("%room", str(room))
+    how = environment(PATH=f"{room}/bin:{os.environ['PATH']}:/usr/sbin", CONTAINERS_CONF=str(room / "containers.conf"),
+                      CONTAINERS_STORAGE_CONF=str(room / "storage.conf"))
+    status, output, errors = ran(*wrapped("unshare", "-m", "bash", "-m", "-c", script), text=True, env=how, cwd=room)
+    if status != 0 and not re.search("reqkeyd: ready", errors):
+        print(f"the lines of docs/PROGRAMS.md: not tried, podman starts nothing here: {errors.strip()[:300]}")
+        return
+    count.same("the lines of docs/PROGRAMS.md", (status, output.strip().isdigit()), (0, True))
+
+
 def runtimes(room):
     """Those that are here."""
     for name in RUNTIMES:
@@ -238,6 +293,7 @@ def main():
                 unrooted(trapping, daemon, room)
                 listening.process.kill()
                 count.same("what it says", listening.process.stderr.read(), "")
+            documented(program, trapping, room / "documented")
     count.end()
 
 
