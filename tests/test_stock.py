@@ -1,6 +1,7 @@
 #!/usr/bin/env python3
 """Debian's own programs on the daemon, unmodified, by the library and by reqkey-trap: the handlers request-key, with its own request-key.conf,
-key.dns_resolver, nfsidmap, and cifs.upcall with a local KDC; and the client python3-keyutils. Each is tried where its package is here."""
+key.dns_resolver, nfsidmap, and cifs.upcall with a local KDC; and the clients python3-keyutils, kinit with a cache that is a file, systemd-ask-password,
+cifscreds and e4crypt. Each is tried where its package is here."""
 import os
 import pathlib
 import re
@@ -15,7 +16,7 @@ from compiled import made
 from counted import Counted
 from daemon import Daemon, until
 from keyutils_library import Programs, available, resolves
-from programs import ran, there, top
+from programs import lacks, ran, there, top
 
 count = Counted()
 SYSTEM = "/usr/sbin:/sbin:/usr/bin:/bin"
@@ -136,6 +137,55 @@ class Center:
         count.same(f"cifs.upcall by {way}: the ticket", len(payload) > 400, True)
 
 
+    def caches(self, way, run):
+        """A ticket in a cache of its user's, as docs/PROGRAMS.md says it for a container; one among the keys needs rings in rings."""
+        if not self.there:
+            return
+        told = re.search(r"^ default_ccache_name = .*", (top / "docs" / "PROGRAMS.md").read_text(), re.MULTILINE)[0]
+        for line, want in [(told.replace("/tmp/", f"{self.room}/"), (0, "FILE:")), (" default_ccache_name = KEYRING:session:keys", (1, ""))]:
+            (self.room / "its.conf").write_text(re.sub("^ default_ccache_name.*$", line, (self.room / "krb5.conf").read_text(), flags=re.MULTILINE))
+            script = f"export KRB5_CONFIG={self.room}/its.conf; echo secret | kinit user > /dev/null && kvno cifs/server > /dev/null && klist"
+            status, output, errors = run("sh", "-c", script)
+            cache = output.partition("cache: ")[2][:5]
+            count.same(f"kinit by {way}: {line}", (status, cache, "Operation not supported" in errors), (*want, status != 0))
+
+
+def asks(run):
+    """systemd-ask-password, which makes the calls itself: what it was told before, and what it is told at a terminal."""
+    if lacks("systemd-ask-password", "systemd-ask-password", "script"):
+        return
+    run("sh", "-c", "printf 'secret\\0' | keyctl padd user asked @u")
+    got = run("systemd-ask-password", "--keyname=asked", "--accept-cached", "Prompt")
+    count.same("systemd-ask-password by the trap: what it knows", (got[0], got[1].strip()), (0, "secret"))
+    run("sh", "-c", "echo typed | script -qec 'systemd-ask-password --keyname=told Prompt' /dev/null")
+    count.same("systemd-ask-password by the trap: what it is told", run("sh", "-c", "keyctl pipe %user:told | tr -d '\\0'")[:2], (0, "typed"))
+
+
+# What cifscreds does with its key, whose name is that of an address.
+STASHES = """echo secret | cifscreds add -u joe 127.0.0.1 && keyctl search @s logon cifs:a:127.0.0.1 > /dev/null && echo added
+echo other | cifscreds update -u joe 127.0.0.1 && cifscreds clear -u joe 127.0.0.1 && keyctl search @s logon cifs:a:127.0.0.1"""
+
+
+def stashes(run):
+    """Programs that give the kernel keys: cifscreds, for its CIFS, and e4crypt, for its ext4. They say that it is not done."""
+    for name, script in [("cifscreds", "echo secret | cifscreds add -u joe 127.0.0.1"), ("e4crypt", "printf 'a\\na\\n' | e4crypt add_key -S 0x01")]:
+        if not lacks(name, name, path=SYSTEM):
+            _, output, errors = run("sh", "-c", f"PATH={SYSTEM}; {script}")
+            told = [part in output + errors for part in ["Operation not supported", "Added key"]]
+            count.same(f"{name} in a trap", told, [True, False])
+
+
+def leaves(program, socket):
+    """cifscreds with its type left to the kernel."""
+    if lacks("cifscreds", "cifscreds") or ran("keyctl", "session", "-", "keyctl", "add", "logon", "a:b", "v", "@s")[0]:
+        print("cifscreds with the kernel's keys: not tried, it is not here, or has none")
+        return
+    words = ["keyctl", "session", "-", program, "--kernel", "logon", "--socket", socket, "--", "sh", "-c", STASHES]
+    status, output, errors = ran(*words, text=True, env=trap.environment())
+    told = [line.split("Password: ")[-1] for line in errors.split("\n")[1:]]
+    count.same("cifscreds with the kernel's keys", (status, output, told), (1, "added\n", ["keyctl_search: Required key not available", ""]))
+
+
 def bindings(way, run):
     python = "/usr/bin/python3"
     if not os.path.exists("/usr/lib/python3/dist-packages/keyutils/__init__.py"):
@@ -153,6 +203,7 @@ def tries(way, run, center, daemon):
         print("request-key: not tried, it or its configuration is not here")
     maps(way, run)
     center.upcalls(way, run, daemon)
+    center.caches(way, run)
     bindings(way, run)
 
 
@@ -182,6 +233,9 @@ def main():
                 with Daemon(daemon_program, lines(f"{program} --key %k ", center)) as daemon:
                     with trap.Inside(trap.Trap(program, daemon.path).words(), env=trap.environment()) as inside:
                         tries("the trap", inside.run, center, daemon)
+                        asks(inside.run)
+                        stashes(inside.run)
+                    leaves(program, daemon.path)
         finally:
             center.end()
     count.end()
