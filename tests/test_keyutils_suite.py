@@ -100,8 +100,10 @@ def fetched(room):
 
 
 def suite():
-    """The folder of the tests, or None."""
-    if not (KEPT / "tests").is_dir() and shutil.which("apt-get") and VERSION in " ".join(map(str, ran("keyctl", "--version", text=True))):
+    """The folder of the tests, or None: also if the keyctl that is here is not theirs."""
+    if f"keyutils-{VERSION}" not in "".join(map(str, ran("keyctl", "--version", text=True))):
+        return None
+    if not (KEPT / "tests").is_dir() and shutil.which("apt-get"):
         with tempfile.TemporaryDirectory(prefix="source-") as folder:
             try:
                 if fetched(pathlib.Path(folder)):
