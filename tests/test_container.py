@@ -204,7 +204,8 @@ def unrooted(trapping, daemon, room):
         listening.process.kill()
         count.same("what it says without root", listening.process.stderr.read(), "")
     if not lacks("bwrap in a trap", "bwrap"):
-        script = "id -u; keyctl print $(keyctl request2 user made:a hello @s); keyctl add user k v @u > /dev/null; keyctl rdescribe %user:k; keyctl rdescribe @s"
+        script = "id -u; keyctl print $(keyctl request2 user made:a hello @s); keyctl add user k v @u > /dev/null; "
+        script += "keyctl rdescribe %user:k; keyctl rdescribe @s"
         words = ["bwrap", "--ro-bind", "/", "/", "--dev", "/dev", "--proc", "/proc", "--unshare-all", "--uid", "77", "sh", "-c", script]
         lines = "77\nhello\nuser;77;-1;3f000000;k\nkeyring;77;-1;3f000000;_ses\n"
         count.same("bwrap in a trap", ran(*AS_USER, *Trap(trapping, daemon.path).words(*words), text=True, env=environment()), (0, lines, ""))

@@ -62,7 +62,8 @@ PRINTED = {
         "nowhere 1 5", *["nowhere 1 14"] * 6, "type without end EINVAL", "description without end EFAULT", "description that is too long EINVAL",
         "description to the end of its page done", "payload over the end EFAULT", "payload to the end done", "payload of any length EINVAL",
         "payload of 32768 EINVAL", "parts EINVAL", "parts without number EINVAL", "read only EFAULT", "unreadable payload EFAULT", "unreadable text EFAULT",
-        "unreadable buffer EFAULT", "guarded buffer EFAULT", "readable payload done", "guarded description EFAULT", "writable done", "read over the end EFAULT", "changing 0", "after done",
+        "unreadable buffer EFAULT", "guarded buffer EFAULT", "readable payload done", "guarded description EFAULT", "writable done", "read over the end EFAULT",
+        "changing 0", "after done",
     ],
     "rings": ["late 0", "early 0", "named 0", "quota EDQUOT 1", "name without letters EINVAL", "name with a dot EPERM"],
     "waiting": ["meanwhile done", "killed 1", "both 1"],
@@ -173,8 +174,10 @@ def kernels(trap):
         return
     words = ["keyctl", "session", "-", trap.program, "--kernel", "fscrypt-provisioning,logon", *trap.words()[1:], "sh", "-c", KERNELS]
     status, output, errors = ran(*words, text=True, env=environment())
-    count.same("types that are left to the kernel", (status, output.split("\n")[:-1]), (1, ["logon;a:b", "found", "found", "done", f"user;{UID};-1;3f000000;k", "v"]))
-    count.same("what it refuses of them", [line.partition(": ")[2] for line in errors.split("\n")[1:-1]], [LEFT_OUT, LEFT_OUT, MISSING, LEFT_OUT, REVOKED, ABSENT])
+    want = ["logon;a:b", "found", "found", "done", f"user;{UID};-1;3f000000;k", "v"]
+    count.same("types that are left to the kernel", (status, output.split("\n")[:-1]), (1, want))
+    refused = [line.partition(": ")[2] for line in errors.split("\n")[1:-1]]
+    count.same("what it refuses of them", refused, [LEFT_OUT, LEFT_OUT, MISSING, LEFT_OUT, REVOKED, ABSENT])
     inner = trap.run(trap.program, "--kernel", "logon", "true")
     count.same("a trap in a trap can't", inner, (1, "", "reqkey-trap: --kernel: another supervisor answers for this process\n"))
     for types in ["", ",", "logon,", "l" * 32]:

@@ -50,7 +50,7 @@ static void skip_line(FILE *maps, const char *line)
         next = getc(maps);
 }
 
-/* The first mapping that ends behind this address. The lines are in the order of addresses. */
+/* The mapping of this address, which is behind those that were read before. */
 static enum found read_on(FILE *maps, uint64_t at, struct mapping *mapping)
 {
     char line[128], how[5];
@@ -58,47 +58,43 @@ static enum found read_on(FILE *maps, uint64_t at, struct mapping *mapping)
     while (fgets(line, sizeof line, maps) != NULL) {
         skip_line(maps, line);
         if (sscanf(line, "%lx-%lx %4s", &start, &end, how) == 3 && end > at) {
+            if (start > at)
+                return ABSENT;
             *mapping = (struct mapping){start, end, how[1] == 'w'};
-            return start <= at ? FOUND : ABSENT;
+            return FOUND;
         }
     }
     return ABSENT;
 }
 
-static bool all_read(int maps, uint64_t at, uint64_t end)
+/* The same as mappings_may_be_written, by this file, which is closed. */
+static bool read_may_be_written(int maps, uint64_t at, uint64_t end)
 {
-    struct mapping mapping = {0, 0, false};
+    struct mapping mapping = {0, 0, true};
     FILE *file = fdopen(maps, "r");
     if (file == NULL) {
         close(maps);
         return true;
     }
-    enum found found = FOUND;
-    for (; found == FOUND && at < end; at = mapping.end) {
-        found = read_on(file, at, &mapping);
-        if (found == FOUND && !mapping.writable)
-            found = ABSENT;
-    }
+    while (at < end && mapping.writable && read_on(file, at, &mapping) == FOUND)
+        at = mapping.end;
     fclose(file);
-    return found == FOUND;
+    return mapping.writable;
 }
 
-bool mappings_are_writable(uint64_t at, size_t length)
+bool mappings_may_be_written(uint64_t at, size_t length)
 {
     char path[64];
     uint64_t end = at + length;
-    struct mapping mapping = {0, 0, false};
+    enum found found = FOUND;
+    struct mapping mapping = {0, 0, true};
     snprintf(path, sizeof path, "/proc/%d/maps", caller.thread);
     int maps = open(path, O_RDONLY | O_CLOEXEC);
     if (maps < 0)
         return true;
-    for (; at < end; at = mapping.end) {
-        enum found found = asked(maps, at, &mapping);
-        if (found == NOT_SEEN)
-            return all_read(maps, at, end);
-        if (found == ABSENT || !mapping.writable)
-            break;
-    }
+    for (; at < end && mapping.writable && found == FOUND; at = mapping.end)
+        if ((found = asked(maps, at, &mapping)) == NOT_SEEN)
+            return read_may_be_written(maps, at, end);
     close(maps);
-    return at >= end;
+    return mapping.writable;
 }

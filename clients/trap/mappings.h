@@ -10,9 +10,9 @@
 #include <stdint.h>
 
 /*
- * Whether all of these bytes are in mappings that the program may write; true if that can't be seen. The kernel is asked once a mapping (PROCMAP_QUERY,
- * ioctl_procmap_query(2)); before Linux 6.11, /proc/PID/maps is read up to the last of them.
+ * False if one of these bytes is in a mapping that the program may not write. It is looked up to the first byte without a mapping, to which nothing is written.
+ * The kernel is asked once a mapping (PROCMAP_QUERY in its Documentation/filesystems/proc.rst); before Linux 6.11, /proc/PID/maps is read up to the last one.
  */
-bool mappings_are_writable(uint64_t at, size_t length);
+bool mappings_may_be_written(uint64_t at, size_t length);
 
 #endif

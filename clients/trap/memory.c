@@ -73,7 +73,7 @@ int memory_write(uint64_t to, const void *from, size_t length)
     int fault = opened();
     if (fault < 0)
         return fault;
-    bool may = mappings_are_writable(to, length);
+    bool may = mappings_may_be_written(to, length);
     if (!caller_lives())
         return -ESRCH;
     return may && pwrite(caller.memory, from, length, (off_t)to) == (ssize_t)length ? 0 : -EFAULT;

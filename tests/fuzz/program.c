@@ -50,7 +50,7 @@ static ssize_t fuzz_across(void *to, uint64_t from, size_t size)
     return done;
 }
 
-bool mappings_are_writable(uint64_t at, size_t length)
+bool mappings_may_be_written(uint64_t at, size_t length)
 {
     return length > 0 && is_mapped(at);
 }
