@@ -184,6 +184,21 @@ def within(program, socket, room):
         count.same(f"{name} in a trap", (status, len(set(lines)), lines[2:], errors), (0, 3, ["v"], ""))
 
 
+def leaves(trapping, daemon, room):
+    """A container whose keys of one type are the kernel's, in the session ring that its runtime has made there."""
+    name = next((name for name in RUNTIMES if shutil.which(name, path=PLACES)), None)
+    if name is None or ran("keyctl", "session", "-", "keyctl", "add", "logon", "a:b", "v", "@s")[0]:
+        print("a container with keys of the kernel: not tried, there is no runtime, or the kernel has none")
+        return
+    place = room / "leaves"
+    place.mkdir()
+    with Listening(count, trapping, daemon, environment(), folder=place, options=["--kernel", "logon"]) as listening:
+        container = Container(place, "alone", listening.path)
+        script = "keyctl rdescribe $(keyctl add logon a:b v @s) | cut -d ';' -f 1,5; keyctl add user k v @s > /dev/null; keyctl print %user:k"
+        status, output, errors = Runtime(name, place / "state").run(container, "sh", "-c", script)
+        count.same("a container with keys of the kernel", (status, output, errors), (0, "logon;a:b\nv\n", ""))
+
+
 def unrooted(trapping, daemon, room):
     """Containers, and their trap, of a user without rights: crun and runc in a user namespace, and bwrap, which runs in a trap."""
     if lacks("containers without root", "setpriv") or ran(*AS_USER, "unshare", "--user", "--map-root-user", "true")[0]:
@@ -294,6 +309,7 @@ def main():
                 unrooted(trapping, daemon, room)
                 listening.process.kill()
                 count.same("what it says", listening.process.stderr.read(), "")
+                leaves(trapping, daemon, room)
             documented(program, trapping, room / "documented")
     count.end()
 

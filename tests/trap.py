@@ -51,9 +51,9 @@ class Trap:
 class Listening:
     """A trap for containers, which comes to a daemon's folder or another one; started by these words, if there are any."""
 
-    def __init__(self, count, program, daemon, log, folder=None, words=()):
+    def __init__(self, count, program, daemon, log, folder=None, words=(), options=()):
         self.path = (folder or daemon.room) / "listen"
-        self.process = started(*words, program, "--listen", self.path, "--socket", daemon.path, stdout=None, env=log)
+        self.process = started(*words, program, "--listen", self.path, "--socket", daemon.path, *options, stdout=None, env=log)
         count.same("a trap for containers", self.process.stderr.readline(), "reqkey-trap: ready\n")
 
     def __enter__(self):
