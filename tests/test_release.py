@@ -124,7 +124,7 @@ def installed(root, package):
     script = f"{serves}; {upgrades}; {lives}; echo $?; {removes}; echo $?; wait; {lives}; echo $?"
     count.same("an upgrade, a removal, and the daemon after each", bare.inside(root, "sh", "-c", script), (0, "0\n0\n1\n", ""))
     stops = [line for line in (root / "systemctl").read_text().splitlines() if " stop " in f" {line}"]
-    count.same("what is stopped", stops, ["stop reqkeyd-sweep@*.timer reqkeyd.service reqkeyd-sweep@*.service",
+    count.same("what is stopped", stops, ["stop reqkeyd-sweep@*.timer reqkey-door.socket reqkeyd.service reqkeyd-sweep@*.service reqkey-door.service",
                                           "--quiet --user --machine 1000@ stop reqkeyd-sweep.timer reqkeyd.service reqkeyd-sweep.service"])
     left = [str(path.relative_to(root)) for folder in ["usr", "etc", "run"] for path in (root / folder).rglob("*reqkey*")]
     count.same("what a removal leaves", left, [])

@@ -49,7 +49,7 @@ package() {
 mkdir -p "$PACKAGES" "$root/DEBIAN" "$symbols/DEBIAN"
 # What prerm stops: the units of a manager, templates with all of their instances. Timers and sockets come first, which would start the others again.
 units_of() {
-    (cd "$root/usr/lib/systemd/$1" && LC_ALL=C ls -r | sort -s -t . -k 2r) | sed "s/@\\./@*./; s/.*/'&'/" | tr '\n' ' ' | sed 's/ $//'
+    (cd "$root/usr/lib/systemd/$1" && LC_ALL=C ls -r | LC_ALL=C sort -s -t . -k 2r) | sed "s/@\\./@*./; s/.*/'&'/" | tr '\n' ' ' | sed 's/ $//'
 }
 for script in prerm postrm; do
     sed "s|@UNITS@|$(units_of system)|; s|@USER_UNITS@|$(units_of user)|" "packaging/debian/$script" > "$root/DEBIAN/$script"
