@@ -57,6 +57,7 @@ CASES = [
      ("rdescribe '%other;1;valid:made:it;0;valid;'", 0, "other;1;valid;{uid};-1;3f000000;made:it;0;valid;\n", "")],
     [("revoke {key}", 0, "", ""), ("print {key}", 1, "", REVOKED), ("describe {key}", 1, "", REVOKED), ("revoke {key}", 1, "", REVOKED)],
     [("revoke " + NONE, 1, "", MISSING), ("revoke @t", 1, "", MISSING), ("revoke 0", 1, "", INVALID)],
+    [("revoke @s", 1, "", LEFT_OUT)],
     [("timeout {key} 4000000000", 0, "", ""), ("timeout {key} 0", 0, "", ""), ("timeout {key} soon", 2, "", "Unparsable timeout")],
     [("timeout " + NONE + " 1", 1, "", MISSING), ("timeout {session} 1", 1, "", LEFT_OUT)],
     [("link {key} @u", 0, "", ""), ("unlink {key} @u", 0, "", ""), ("unlink {key} @u", 1, "", "No such file or directory")],

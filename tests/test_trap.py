@@ -6,7 +6,6 @@ The program is tried as it is installed, and so that a wrong access to memory, o
 """
 import contextlib
 import errno
-import json
 import os
 import pathlib
 import pty
@@ -27,11 +26,10 @@ from counted import Counted
 from daemon import Daemon, until
 from keyctl_commands import ABSENT, ALONE, CASES, LEFT_OUT, MISSING, REVOKED, Keyctl
 from programs import LIMIT, PROGRAMS, lacks, ran, started, there, top
-from trap import Inside, Listening, Trap, environment, notifies, statically
+from trap import CALLS, RUNTIME, Containers, Inside, Trap, calls, environment, notifies, statically, supervisor_of
 
 count = Counted()
 UID = os.geteuid()
-RUNTIME = top / "tests" / "clients" / "runtime.py"
 
 LINES = """create user made:* * |/bin/cat
 create logon made:* * |/bin/cat
@@ -98,6 +96,8 @@ def commands(trap):
     with Commands(trap.words(), env=environment(SHELL="/bin/true")) as inside:
         session, user = (int(inside.run("keyctl", "id", name)[1]) for name in ["@s", "@u"])
         for case in [*CASES, *([(name, *want)] for name, want in ALONE.items())]:
+            if case[0][0] == "revoke @s":
+                continue  # which is done here (test_trap_rings.py), and left out by the library
             key = inside.key()
             for words, *want in case:
                 inside.fits(words, [want[0], OTHERWISE.get(words, want[1]), want[2]], key=key, session=session, user=user, uid=UID)
@@ -143,17 +143,6 @@ def users(trap, daemon, program):
     rights = ["grep", "NoNewPrivs", "/proc/self/status"]
     count.same("another user gains no rights", ran(*words[:-1], *rights, text=True, env=environment())[1].split(), ["NoNewPrivs:", "1"])
     count.same("root's programs do", trap.run(*rights)[1].split(), ["NoNewPrivs:", "0"])
-
-
-def supervisor_of(process):
-    """The supervisor of a trap: its child."""
-    def child():
-        for path in pathlib.Path("/proc").glob("[0-9]*/stat"):
-            with contextlib.suppress(OSError):
-                if int(path.read_text().rpartition(")")[2].split()[1]) == process.pid:
-                    return int(path.parent.name)
-        return None
-    return until(child, "a supervisor")
 
 
 # Calls by the letters of the kernel: its key is there by its serial, also for those calls that the daemon leaves out, and others are the daemon's.
@@ -358,25 +347,6 @@ def restarted(trap, daemon, program):
     count.same("a ring that is gone", joined.communicate("\nj\n", timeout=LIMIT)[0], "add EKEYREVOKED\njoin done\nadd done\n")
 
 
-class Containers(Listening):
-    """A trap for containers, and a runtime that starts programs in them."""
-
-    def words(self, name, *words):
-        state = json.dumps({"fds": ["seccompFd"], "metadata": '"state": {"id": "other"}', "state": {"annotations": {"id": "none"}, "id": name}})
-        return [sys.executable, str(RUNTIME), str(self.path), state if name is not None else "x", *map(str, words)]
-
-    def inside(self, name):
-        return Inside(self.words(name), env=environment())
-
-    def descriptors(self):
-        """What it has open for containers, and for the daemon."""
-        kinds = []
-        for path in pathlib.Path(f"/proc/{self.process.pid}/fd").iterdir():
-            with contextlib.suppress(OSError):
-                kinds.append(os.readlink(path) if int(path.name) > 2 else "")
-        return [kind.partition(":[")[0] for kind in kinds if kind not in ["", "anon_inode:[eventpoll]"]]
-
-
 def contained(trap, daemon, program, log):
     """Containers: each with a set of rings of its own, by its name."""
     with Containers(count, trap.program, daemon, log) as containers:
@@ -453,28 +423,6 @@ def analyzed():
         count.same(f"the analyzer on {source.name}", ran(*words, text=True), (0, "", ""))
 
 
-# Keys' system calls by the letters of a line, each answered by a line: a number, or the name of an error.
-CALLS = """
-import ctypes, errno, os, signal, sys
-libc = ctypes.CDLL(None, use_errno=True)
-KEYCTL = 250 if os.uname().machine == "x86_64" else 219
-def keyctl(*words):
-    result = libc.syscall(KEYCTL, *words)
-    return result if result >= 0 else errno.errorcode[ctypes.get_errno()]
-def ring():
-    return keyctl(0, -3, 0)
-def join():
-    return keyctl(1, None)
-def told(*words):
-    print(*words, flush=True)
-"""
-
-
-def calls(trap, script, **more):
-    """A program in a trap that makes calls, in Python."""
-    return trap.start(sys.executable, "-I", "-S", "-c", CALLS + script, **more)
-
-
 def children_of(number):
     """The children of a process, with their states."""
     found = {}
@@ -541,8 +489,9 @@ for turn in range(40):
     os.close(reader), os.close(writer)
 """
     words = [sys.executable, "-I", "-S", "-c", CALLS + script]
-    # (the second thread is for the next call, the third one watches: only then do the rings of processes that have ended make room)
-    count.same("rings one after the other", trap.run(*words, **refusing, REFUSED="3"), (0, "-" + "r" * 39, ""))
+    # (the second thread oversees the first one, the third is for the next call, the fourth watches the ends of processes, without which none joins a ring)
+    for refused, want in [("2", "r" * 40), ("3", "r" * 40), ("4", "-" + "r" * 39)]:
+        count.same(f"rings one after the other, without thread {refused}", trap.run(*words, **refusing, REFUSED=refused), (0, want, ""))
 
 
 def numbers(trap, crowd):
@@ -568,7 +517,7 @@ told(keyctl(10, -3, b"user", b"n", 0))
 
 
 def exhausted(trap, crowd):
-    """A supervisor without a descriptor more says so, and not that the caller is gone; and no process gets another ring for it."""
+    """A supervisor with few descriptors needs none for each process that is in a ring; and no process gets another ring for it."""
     crowd.answers = crowd.usual
     process = calls(trap, """
 ring(), join()
@@ -585,7 +534,7 @@ os.close(writer)
 """, preexec_fn=lambda: resource.setrlimit(resource.RLIMIT_NOFILE, (40, 40)))
     lines = [process.stdout.readline() for _ in range(60)]
     process.communicate(timeout=LIMIT)
-    count.same("processes beyond its descriptors", (set(lines), lines.count("ring\n") > 10), ({"ring\n", "ENOMEM\n"}, True))
+    count.same("processes beyond its descriptors", (set(lines), lines.count("ring\n") > 10), ({"ring\n"}, True))
 
 
 def limited(trap, crowd):

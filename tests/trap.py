@@ -7,9 +7,11 @@ import subprocess
 import sys
 
 from compiled import compiled
+from daemon import until
 from programs import LIMIT, ran, started, top
 
 INSIDE = top / "tests" / "clients" / "inside.py"
+RUNTIME = top / "tests" / "clients" / "runtime.py"
 
 
 def notifies():
@@ -86,3 +88,55 @@ class Inside:
             self.process.stdin.flush()
         line = self.process.stdout.readline()
         return tuple(json.loads(line)) if line else ("ended", str(self.process.wait(LIMIT)), "")
+
+
+class Containers(Listening):
+    """A trap for containers, and a runtime that starts programs in them."""
+
+    def words(self, name, *words):
+        state = json.dumps({"fds": ["seccompFd"], "metadata": '"state": {"id": "other"}', "state": {"annotations": {"id": "none"}, "id": name}})
+        return [sys.executable, str(RUNTIME), str(self.path), state if name is not None else "x", *map(str, words)]
+
+    def inside(self, name):
+        return Inside(self.words(name), env=environment())
+
+    def descriptors(self):
+        """What it has open for containers, and for the daemon."""
+        kinds = []
+        for path in pathlib.Path(f"/proc/{self.process.pid}/fd").iterdir():
+            with contextlib.suppress(OSError):
+                kinds.append(os.readlink(path) if int(path.name) > 2 else "")
+        return [kind.partition(":[")[0] for kind in kinds if kind not in ["", "anon_inode:[eventpoll]", "anon_inode:[timerfd]"]]
+
+
+def supervisor_of(process):
+    """The supervisor of a trap: its child."""
+    def child():
+        for path in pathlib.Path("/proc").glob("[0-9]*/stat"):
+            with contextlib.suppress(OSError):
+                if int(path.read_text().rpartition(")")[2].split()[1]) == process.pid:
+                    return int(path.parent.name)
+        return None
+    return until(child, "a supervisor")
+
+
+# Keys' system calls by the letters of a line, each answered by a line: a number, or the name of an error.
+CALLS = """
+import ctypes, errno, os, signal, sys
+libc = ctypes.CDLL(None, use_errno=True)
+KEYCTL = 250 if os.uname().machine == "x86_64" else 219
+def keyctl(*words):
+    result = libc.syscall(KEYCTL, *words)
+    return result if result >= 0 else errno.errorcode[ctypes.get_errno()]
+def ring():
+    return keyctl(0, -3, 0)
+def join():
+    return keyctl(1, None)
+def told(*words):
+    print(*words, flush=True)
+"""
+
+
+def calls(trap, script, **more):
+    """A program in a trap that makes calls, in Python."""
+    return trap.start(sys.executable, "-I", "-S", "-c", CALLS + script, **more)

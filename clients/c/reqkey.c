@@ -165,8 +165,19 @@ struct reqkey *reqkey_connect(const char *path)
     return session;
 }
 
+/* A compiler that sees that nobody reads them any more must not leave them. */
+static void *(*const volatile set_all)(void *, int, size_t) = memset;
+
+void reqkey_wipe(struct reqkey *session)
+{
+    set_all(session->frame, 0, session->asked);
+    set_all(session->reply, 0, session->replied);
+}
+
 void reqkey_free(struct reqkey *session)
 {
+    if (session != NULL)
+        reqkey_wipe(session);
     if (session != NULL && session->connected)
         close(session->input);
     if (session != NULL && session->door >= 0)
@@ -403,7 +414,7 @@ static int ask_bytes(struct reqkey *session, const void **bytes)
 /* Bytes that may be read as a string. */
 static int ask_text(struct reqkey *session, const char **text)
 {
-    const void *bytes;
+    const void *bytes = NULL;
     int length = ask_bytes(session, &bytes);
     if (length < 0)
         return length;

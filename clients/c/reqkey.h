@@ -136,6 +136,9 @@ void reqkey_free(struct reqkey *session);
 /* The same without closing anything, for a program that has closed the connection by itself: its number may be another file's by now. */
 void reqkey_forget(struct reqkey *session);
 
+/* Overwrites what stands in the session of its last ask and reply, so that no payload stays in memory. reqkey_free does that, too. */
+void reqkey_wipe(struct reqkey *session);
+
 /* The descriptor that it reads from: the connection of a client. To set its limits of time, or whether exec(3) closes it, as it does unless that is changed. */
 int reqkey_descriptor(const struct reqkey *session);
 

@@ -8,6 +8,7 @@
 #include "kernel.h"
 #include "memory.h"
 #include "session.h"
+#include "sets.h"
 
 #include <errno.h>
 #include <stdbool.h>
@@ -38,6 +39,13 @@ static long told(long result)
     return result < 0 ? -errno : result;
 }
 
+/* Overwrites what a call has had of a payload, since it is nobody else's; gives its result. */
+static long wiped(void *payload, size_t length, long result)
+{
+    explicit_bzero(payload, length);
+    return result;
+}
+
 /* ---- names */
 
 static long answer_add_key(const uint64_t *a)
@@ -49,7 +57,8 @@ static long answer_add_key(const uint64_t *a)
         fault = a[1] == 0 ? -EINVAL : memory_text(room.in.description, a[1], DESCRIPTION);
     if (fault == 0)
         fault = a[3] > PAYLOAD ? -EINVAL : memory_read(room.in.payload, a[2], a[3]);
-    return fault < 0 ? fault : told(add_key(room.in.type, room.in.description, room.in.payload, a[3], (key_serial_t)a[4]));
+    long result = fault < 0 ? fault : told(add_key(room.in.type, room.in.description, room.in.payload, a[3], (key_serial_t)a[4]));
+    return wiped(room.in.payload, a[3] > PAYLOAD ? 0 : a[3], result);
 }
 
 static long answer_request_key(const uint64_t *a)
@@ -61,7 +70,8 @@ static long answer_request_key(const uint64_t *a)
         fault = memory_text(room.in.description, a[1], DESCRIPTION);
     if (fault == 0 && a[2] != 0)
         fault = memory_text(room.in.callout, a[2], CALLOUT);
-    return fault < 0 ? fault : told(request_key(room.in.type, room.in.description, a[2] == 0 ? NULL : room.in.callout, (key_serial_t)a[3]));
+    long result = fault < 0 ? fault : told(request_key(room.in.type, room.in.description, a[2] == 0 ? NULL : room.in.callout, (key_serial_t)a[3]));
+    return wiped(room.in.callout, a[2] == 0 ? 0 : CALLOUT, result);
 }
 
 static long answer_search(const uint64_t *a)
@@ -91,7 +101,8 @@ static long put_back(long length, const void *bytes, uint64_t buffer, uint64_t s
 
 static long answer_read(const uint64_t *a)
 {
-    return put_back(told(keyctl_read((key_serial_t)a[0], room.out, OUT)), room.out, a[1], a[2]);
+    long length = told(keyctl_read((key_serial_t)a[0], room.out, OUT));
+    return wiped(room.out, length < 0 ? 0 : (size_t)length, put_back(length, room.out, a[1], a[2]));
 }
 
 static long answer_describe(const uint64_t *a)
@@ -117,7 +128,8 @@ static long answer_own(const uint64_t *a)
 static long answer_instantiate(const uint64_t *a)
 {
     int fault = a[2] > PAYLOAD ? -EINVAL : memory_read(room.in.payload, a[1], a[2]);
-    return fault < 0 ? fault : told(keyctl_instantiate((key_serial_t)a[0], room.in.payload, a[2], (key_serial_t)a[3]));
+    long result = fault < 0 ? fault : told(keyctl_instantiate((key_serial_t)a[0], room.in.payload, a[2], (key_serial_t)a[3]));
+    return wiped(room.in.payload, PAYLOAD, result);
 }
 
 /* A part of a payload: where it begins, and its length. */
@@ -144,7 +156,8 @@ static long answer_instantiate_iov(const uint64_t *a)
             fault = part[1] > PAYLOAD - length ? -EINVAL : memory_read(room.in.payload + length, part[0], part[1]);
         length += fault == 0 ? part[1] : 0;
     }
-    return fault < 0 ? fault : told(keyctl_instantiate((key_serial_t)a[0], room.in.payload, length, (key_serial_t)a[3]));
+    long result = fault < 0 ? fault : told(keyctl_instantiate((key_serial_t)a[0], room.in.payload, length, (key_serial_t)a[3]));
+    return wiped(room.in.payload, PAYLOAD, result);
 }
 
 /* ---- numbers alone */
@@ -160,6 +173,13 @@ static long answer_default(const uint64_t *a)
     if (before >= 0 && setting != REQKEY_KEEP && !session_setting(setting))
         before = -ENOMEM;
     return told(session_end(before));
+}
+
+/* A key, or the session ring. */
+static long answer_revoke(const uint64_t *a)
+{
+    int done = session_revoke((int32_t)a[0]);
+    return done != 0 ? told(done < 0 ? done : 0) : told(keyctl_revoke((key_serial_t)a[0]));
 }
 
 static long answer_keyctl(uint32_t command, const uint64_t *a)
@@ -182,9 +202,10 @@ static long answer_keyctl(uint32_t command, const uint64_t *a)
     case KEYCTL_CAPABILITIES:
         return answer_capabilities(a);
     case ANSWER_SOCKET:
-        return answer_own(a);
-    case KEYCTL_GET_KEYRING_ID:
+        return set_is_container(caller.set) ? -EOPNOTSUPP : answer_own(a);
     case KEYCTL_REVOKE:
+        return answer_revoke(a);
+    case KEYCTL_GET_KEYRING_ID:
     case KEYCTL_CLEAR:
     case KEYCTL_LINK:
     case KEYCTL_UNLINK:

@@ -5,6 +5,7 @@
  *     keyctl(ANSWER_SOCKET, buffer, length)
  *
  * By it a reqkey-trap that runs under another one learns of it: the length of the path of the other's socket with its zero byte, which is written if it fits.
+ * A container is not told: EOPNOTSUPP.
  */
 #ifndef ANSWER_H
 #define ANSWER_H

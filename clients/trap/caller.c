@@ -1,5 +1,6 @@
 #include "caller.h"
 
+#include "../keyutils/calls.h"
 #include "calls_of.h"
 
 #include <errno.h>
@@ -33,7 +34,7 @@ static bool read_status(const char *text)
 {
     const char *group = strstr(text, "\nTgid:"), *parent = strstr(text, "\nPPid:"), *uid = strstr(text, "\nUid:"), *gid = strstr(text, "\nGid:");
     return group != NULL && parent != NULL && uid != NULL && gid != NULL && sscanf(group, "\nTgid: %d", &caller.process) == 1 &&
-           sscanf(parent, "\nPPid: %d", &caller.parent) == 1 && sscanf(uid, "\nUid: %*u %*u %*u %u", &caller.uid) == 1 &&
+           sscanf(parent, "\nPPid: %d", &caller.parent) == 1 && sscanf(uid, "\nUid: %u", &caller.uid) == 1 &&
            sscanf(gid, "\nGid: %*u %*u %*u %u", &caller.gid) == 1;
 }
 
@@ -48,18 +49,40 @@ struct info {
 
 enum { HAS_PROCESS = 1, HAS_USER = 2 };
 
+/* The pidfd of the last caller. Once that thread was collected it says nothing more, so it is never another one's of the same number. */
+static __thread struct {
+    pid_t thread;
+    int pidfd;
+} last = {0, -1};
+
+static bool asks(struct info *info)
+{
+    *info = (struct info){.mask = HAS_PROCESS | HAS_USER};
+    return last.pidfd >= 0 && ioctl(last.pidfd, GET_INFO, info) == 0 && (info->mask & (HAS_PROCESS | HAS_USER)) == (HAS_PROCESS | HAS_USER);
+}
+
+void caller_forget(void)
+{
+    if (last.pidfd >= 0)
+        close(last.pidfd);
+    last.pidfd = -1;
+}
+
 static bool read_info(void)
 {
-    struct info info = {.mask = HAS_PROCESS | HAS_USER};
-    int pidfd = ASKS_PIDFD ? (int)syscall(SYS_pidfd_open, caller.thread, OF_THREAD) : -1;
-    bool said = pidfd >= 0 && ioctl(pidfd, GET_INFO, &info) == 0 && (info.mask & (HAS_PROCESS | HAS_USER)) == (HAS_PROCESS | HAS_USER);
-    if (pidfd >= 0)
-        close(pidfd);
+    struct info info;
+    bool said = last.thread == caller.thread && asks(&info);
+    if (!said && ASKS_PIDFD) {
+        caller_forget();
+        last.thread = caller.thread;
+        last.pidfd = (int)syscall(SYS_pidfd_open, caller.thread, OF_THREAD);
+        said = asks(&info);
+    }
     if (!said)
         return false;
     caller.process = (pid_t)info.process;
     caller.parent = (pid_t)info.parent;
-    caller.uid = info.file_system[0];
+    caller.uid = info.uids[0];
     caller.gid = info.file_system[1];
     return true;
 }
@@ -72,10 +95,46 @@ static bool read_proc(void)
     return read_file(path, text, sizeof text) > 0 && read_status(text);
 }
 
+/* Whether a command of keyctl(2) may link a key, and into which ring; 0 is none. Any that is not known here may. */
+static int32_t linked_into(const __u64 *a)
+{
+    switch ((uint32_t)a[0]) {
+    case KEYCTL_LINK:
+        return (int32_t)a[2];
+    case KEYCTL_SEARCH:
+        return (int32_t)a[4];
+    case KEYCTL_GET_KEYRING_ID:
+    case KEYCTL_JOIN_SESSION_KEYRING:
+    case KEYCTL_REVOKE:
+    case KEYCTL_DESCRIBE:
+    case KEYCTL_CLEAR:
+    case KEYCTL_UNLINK:
+    case KEYCTL_READ:
+    case KEYCTL_SET_REQKEY_KEYRING:
+    case KEYCTL_SET_TIMEOUT:
+    case KEYCTL_ASSUME_AUTHORITY:
+    case KEYCTL_CAPABILITIES:
+        return 0;
+    default:
+        return ANY_RING;
+    }
+}
+
+/* What the call may link. A request that makes a key has its handler, which may link others into any ring of the caller. */
+static void find_links(const struct seccomp_notif *call)
+{
+    const __u64 *a = call->data.args;
+    enum call kind = call_of(call->data.arch, (uint32_t)call->data.nr);
+    caller.constructs = kind == CALL_REQUEST_KEY && a[2] != 0;
+    caller.into = kind == CALL_ADD_KEY ? (int32_t)a[4] : kind == CALL_REQUEST_KEY ? (int32_t)a[3] : linked_into(a);
+    caller.links = caller.constructs || caller.into != 0;
+}
+
 int caller_begin(int listener, struct set *set, const struct seccomp_notif *call)
 {
     caller = (struct caller){.listener = listener, .id = call->id, .thread = (pid_t)call->pid, .set = set, .memory = -1};
     caller.narrow = is_narrow(call->data.arch);
+    find_links(call);
     if (call->pid == 0)
         return -EPERM;
     bool seen = read_info() || read_proc();
@@ -103,7 +162,7 @@ pid_t parent_of(pid_t id)
     int parent = 0;
     snprintf(path, sizeof path, "/proc/%d/stat", id);
     if (read_file(path, text, sizeof text) <= 0)
-        return 0;
+        return errno == EMFILE || errno == ENFILE || errno == ENOMEM ? -1 : 0;
     const char *end = strrchr(text, ')'); /* of the name, which may have any bytes */
     return end != NULL && sscanf(end + 1, " %*c %d", &parent) == 1 ? parent : 0;
 }

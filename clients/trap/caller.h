@@ -18,13 +18,17 @@
 
 struct set;
 
+enum { ANY_RING = INT32_MIN }; /* or none that is known */
+
 struct caller {
     int listener;
     uint64_t id;             /* of its call, at this listener */
     pid_t thread, process;   /* as this process numbers them */
     pid_t parent;            /* of the process */
-    uint32_t uid, gid;       /* those of its file system calls, by which the kernel goes, too */
+    uint32_t uid, gid;       /* the real uid, by which the kernel's rings go, too; and the gid of its file system calls */
     bool narrow;             /* its pointers have 32 bits */
+    bool links, constructs;  /* a key may be linked by this call; and one be made by a handler, which may link others */
+    int32_t into;            /* the ring into which it is linked */
     struct set *set;         /* of rings, that it finds */
     int memory;              /* -1 until it is opened */
 };
@@ -39,10 +43,13 @@ int caller_begin(int listener, struct set *set, const struct seccomp_notif *call
 
 void caller_end(void);
 
+/* This thread answers no more calls. */
+void caller_forget(void);
+
 /* Whether it still waits for its answer. */
 bool caller_lives(void);
 
-/* The parent of a process, 0 if there is none that can be seen. */
+/* The parent of a process, 0 if there is none that can be seen, -1 if there is no descriptor to look for it. */
 pid_t parent_of(pid_t id);
 
 #endif

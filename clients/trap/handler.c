@@ -1,5 +1,7 @@
 #include "handler.h"
 
+#include "listener.h"
+
 #include <errno.h>
 #include <fcntl.h>
 #include <pthread.h>
@@ -75,7 +77,10 @@ void handler_assumes(int32_t key)
 
 struct reqkey *handler_take(void)
 {
-    pthread_mutex_lock(&turn);
+    if (pthread_mutex_trylock(&turn) != 0) {
+        listener_waits();
+        pthread_mutex_lock(&turn);
+    }
     if (handler.session != NULL)
         return handler.session;
     errno = ECONNRESET;
@@ -85,6 +90,8 @@ struct reqkey *handler_take(void)
 
 void handler_give(void)
 {
+    if (handler.session != NULL)
+        reqkey_wipe(handler.session);
     pthread_mutex_unlock(&turn);
 }
 

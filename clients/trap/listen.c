@@ -13,6 +13,7 @@
 #include <stdio.h>
 #include <stdlib.h>
 #include <string.h>
+#include <sys/prctl.h>
 #include <sys/socket.h>
 #include <sys/stat.h>
 #include <sys/un.h>
@@ -93,6 +94,7 @@ int listen_at(const char *path)
     if (server < 0)
         return failed(path);
     signal(SIGPIPE, SIG_IGN);
+    prctl(PR_SET_DUMPABLE, 0, 0, 0, 0); /* its memory is for itself: of each container something is in it */
     descriptors_many();
     fputs("reqkey-trap: ready\n", stderr);
     for (;;) {

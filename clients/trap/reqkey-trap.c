@@ -7,7 +7,8 @@
  *     state.h       what a runtime says of a container  listener.h   the threads that receive calls
  *     answer.h      one call                            caller.h     who makes it
  *     memory.h      the caller's memory                 session.c    the library's session.h for the caller
- *     processes.h   which ring a process is in          rings.h      rings, and connections to the daemon
+ *     processes.h   which ring a process is in          marks.h      marks of processes
+ *     rings.h       rings, and connections to the daemon
  *     sets.h        what each container has             handler.h    the session of a handler
  *     calls_of.h    the numbers of the system calls     kernel.h     types that are left to the kernel
  *     shown.h       the uids that the caller is told    mappings.h   what the caller may write

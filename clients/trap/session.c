@@ -7,56 +7,38 @@
 #include "handler.h"
 #include "processes.h"
 #include "rings.h"
-#include "sets.h"
 
 #include <errno.h>
 #include <stddef.h>
 
 static __thread struct connection *mine; /* of the call of this thread */
 
-/* The user of the daemon that the caller is; false and ENOMEM if there is no memory for it. */
-static bool number_of_caller(uint32_t *number)
-{
-    rings_lock();
-    bool known = set_number(caller.set, caller.uid, number) == 0;
-    rings_unlock();
-    errno = known ? 0 : ENOMEM;
-    return known;
-}
-
 /* The ring of the caller's process, held; the first one of its user if it is in none, or in another user's, who is let into no ring of that. */
 static struct ring *ring_of_caller(int *setting)
 {
-    uint32_t number;
     struct ring *ring;
-    if (!number_of_caller(&number))
+    if (!process_find(&ring, setting))
         return NULL;
-    rings_lock();
-    bool found = process_find(&ring, setting), joined = ring != NULL && ring_is_of(ring, number), held = joined && ring_hold(ring);
-    rings_unlock();
-    if (held)
-        return ring;
-    if (found && !joined)
-        return ring_first(caller.set, number, caller.gid);
-    errno = found ? EKEYREVOKED : ENOMEM;
+    return ring != NULL ? ring : ring_first(caller.set, caller.uid, caller.gid);
+}
+
+/* A connection in a ring that is held; NULL and errno, and then it is let go of. */
+static struct connection *taken(struct ring *ring)
+{
+    struct connection *connection = ring == NULL ? NULL : connection_take(ring, caller.gid);
+    if (ring == NULL || connection != NULL)
+        return connection;
+    int error = errno;
+    ring_let_go(ring);
+    errno = error;
     return NULL;
 }
 
 /* A connection for the caller; NULL and errno. If the daemon is found to be another one, a first ring is made anew, and the call goes on there. */
 static struct connection *connection_of_caller(int *setting)
 {
-    for (int turn = 0; turn < 2; turn++) {
-        struct ring *ring = ring_of_caller(setting);
-        struct connection *connection = ring == NULL ? NULL : connection_take(ring, caller.gid);
-        if (ring == NULL || connection != NULL)
-            return connection;
-        int error = errno;
-        ring_let_go(ring);
-        errno = error;
-        if (error != EKEYREVOKED)
-            break;
-    }
-    return NULL;
+    struct connection *connection = taken(ring_of_caller(setting));
+    return connection != NULL || errno != EKEYREVOKED ? connection : taken(ring_of_caller(setting));
 }
 
 /* Has a connection of several processes the setting of this one; a result that is an error if it can't. */
@@ -66,6 +48,15 @@ static int set_default(int setting)
     if (before >= 0)
         mine->setting = setting;
     return before;
+}
+
+/* What the call has done with its ring, by this result. */
+static struct use use_of(int result)
+{
+    bool broken = result <= -REQKEY_ENDED, links = caller.constructs || (caller.links && (result >= 0 || broken));
+    bool session = caller.into == REQKEY_SESSION_RING || (uint32_t)caller.into == mine->rings.session;
+    bool user = caller.into == REQKEY_USER_RING || (uint32_t)caller.into == mine->rings.user;
+    return (struct use){caller.process, links && (caller.constructs || !user), links && (caller.constructs || !session), broken};
 }
 
 struct reqkey *session_begin(int32_t key)
@@ -96,8 +87,10 @@ long session_end(int result)
     int error = result < 0 ? errno_of(result) : 0;
     if (is_handler())
         handler_give();
-    else
-        connection_give(mine, result <= -REQKEY_ENDED);
+    else {
+        struct use use = use_of(result);
+        connection_give(mine, &use);
+    }
     mine = NULL;
     if (error == 0)
         return result;
@@ -121,8 +114,7 @@ struct reqkey *session_alone(void)
         errno = EOPNOTSUPP;
         return NULL;
     }
-    uint32_t number;
-    return number_of_caller(&number) ? ring_alone(number, caller.gid) : NULL;
+    return connection_alone(mine);
 }
 
 long session_renew(const char *name)
@@ -131,14 +123,11 @@ long session_renew(const char *name)
         errno = EOPNOTSUPP;
         return -1;
     }
-    uint32_t number;
-    struct ring *ring = number_of_caller(&number) ? ring_named(caller.set, number, caller.gid, name) : NULL;
+    struct ring *ring = ring_named(caller.set, caller.uid, caller.gid, name);
     if (ring == NULL)
         return -1;
     uint32_t serial = ring_serial(ring);
-    rings_lock();
     bool joined = process_join(ring);
-    rings_unlock();
     ring_let_go(ring);
     if (joined)
         return (long)serial;
@@ -146,15 +135,41 @@ long session_renew(const char *name)
     return -1;
 }
 
+/* The ring of the caller's process by its number, held, whoever's it is: a program that has joined it for another user may still revoke it. */
+static struct ring *ring_to_revoke(int32_t id)
+{
+    int setting;
+    struct ring *ring = process_ring();
+    if (ring != NULL && id > 0 && ring_serial(ring) == (uint32_t)id)
+        return ring;
+    if (ring != NULL)
+        ring_let_go(ring);
+    ring = ring_of_caller(&setting);
+    if (ring == NULL || id == REQKEY_SESSION_RING || ring_serial(ring) == (uint32_t)id)
+        return ring;
+    ring_let_go(ring);
+    errno = 0;
+    return NULL;
+}
+
+int session_revoke(int32_t id)
+{
+    struct ring *ring = is_handler() || (id <= 0 && id != REQKEY_SESSION_RING) ? NULL : ring_to_revoke(id);
+    if (ring == NULL)
+        return is_handler() || id != REQKEY_SESSION_RING ? 0 : -1;
+    mine = taken(ring);
+    if (mine == NULL)
+        return -1;
+    ring_revoke(ring);
+    return session_end(reqkey_clear(mine->session, REQKEY_SESSION_RING)) < 0 ? -1 : 1;
+}
+
 bool session_setting(int setting)
 {
     if (is_handler())
         return true;
     mine->setting = setting;
-    rings_lock();
-    bool kept = process_set(setting);
-    rings_unlock();
-    return kept;
+    return process_set(setting);
 }
 
 void session_assumes(int32_t key)

@@ -5,6 +5,7 @@
 #include "handler.h"
 #include "listener.h"
 #include "passing.h"
+#include "processes.h"
 #include "sets.h"
 
 #include <errno.h>
@@ -24,10 +25,11 @@
 
 enum { NOT_TRAPPED = 1, NOT_STARTED = 126, NOT_THERE = 127, SIGNALS = 128, PATIENCE = 100 /* milliseconds */ };
 
-/* What the supervisor tells: the program's number, and then its status. */
+/* What the supervisor tells: the program's number, and then its status; and between them a process that can't be marked (processes.h). */
 struct report {
     pid_t program;
     int status;
+    pid_t limited; /* or 0 */
 };
 
 static const int HANDED_ON[] = {SIGHUP, SIGINT, SIGQUIT, SIGTERM, SIGUSR1, SIGUSR2};
@@ -80,6 +82,15 @@ __attribute__((noreturn)) static void program(int socket, char **words)
 /* ---- the supervisor */
 
 static int ended[2]; /* a pipe that is closed with the last program */
+static int reports;
+
+/* The supervisor has no standard error. */
+static void limited(pid_t process)
+{
+    struct report told = {.limited = process};
+    if (write(reports, &told, sizeof told) != sizeof told)
+        errno = 0; /* nobody waits for it */
+}
 
 static void all_ended(void)
 {
@@ -118,23 +129,24 @@ static bool answers(int socket)
 }
 
 /* Collects what ends, and tells of the program. Until then, or until all have ended. */
-static void collect(pid_t program, int report)
+static void collect(pid_t program)
 {
-    struct report told = {program, 0};
+    struct report told = {program, 0, 0};
     for (pid_t child; (child = waitpid(-1, &told.status, 0)) != program;)
         if (child < 0 && errno != EINTR)
             return;
     if (is_handler())
         handler_end();
-    if (write(report, &told, sizeof told) != sizeof told)
+    if (write(reports, &told, sizeof told) != sizeof told)
         errno = 0; /* nobody waits for it */
-    close(report);
 }
 
 __attribute__((noreturn)) static void supervisor(int report, char **words)
 {
     int pair[2];
     struct pollfd rest;
+    reports = report;
+    processes_limited = limited;
     prctl(PR_SET_CHILD_SUBREAPER, 1, 0, 0, 0);
     if (socketpair(AF_UNIX, SOCK_STREAM | SOCK_CLOEXEC, 0, pair) < 0)
         _exit(shown("socketpair", NOT_TRAPPED));
@@ -144,14 +156,15 @@ __attribute__((noreturn)) static void supervisor(int report, char **words)
         program(pair[1], words);
     }
     close(pair[1]);
+    prctl(PR_SET_DUMPABLE, 0, 0, 0, 0); /* what it will have of each program is not for the others, which may be its user's, too */
     leave_terminal();
     descriptors_many();
-    struct report told = {child, 0};
+    struct report told = {child, 0, 0};
     bool answering = child > 0 && write(report, &told, sizeof told) == sizeof told && answers(pair[0]);
     close(pair[0]);
     leave_streams();
     if (child > 0)
-        collect(child, report);
+        collect(child);
     rest = (struct pollfd){answering ? ended[0] : -1, 0, 0};
     signal(SIGCHLD, SIG_IGN); /* what is left behind is collected by the kernel, but for what has ended already */
     while (waitpid(-1, NULL, WNOHANG) > 0)
@@ -171,16 +184,25 @@ static void hand_on(int signals, pid_t program)
         kill(program, (int)signal.ssi_signo);
 }
 
-/* The next report; false with the end of the supervisor. What comes before the program is known is kept for it. */
+/* The next report of the program; false with the end of the supervisor. What comes before the program is known is kept for it. */
 static bool next_report(int signals, int report, struct report *told)
 {
     for (;;) {
+        struct report next;
         struct pollfd both[2] = {{report, POLLIN, 0}, {signals, POLLIN, 0}};
         if (poll(both, told->program > 0 ? 2 : 1, -1) < 0)
             continue;
-        if (both[0].revents != 0)
-            return read(report, told, sizeof *told) == sizeof *told;
-        hand_on(signals, told->program);
+        if (both[0].revents == 0) {
+            hand_on(signals, told->program);
+            continue;
+        }
+        if (read(report, &next, sizeof next) != sizeof next)
+            return false;
+        if (next.limited == 0) {
+            *told = next;
+            return true;
+        }
+        fprintf(stderr, "reqkey-trap: " PROCESSES_LIMITED "\n", next.limited);
     }
 }
 
@@ -212,7 +234,7 @@ int supervise(char **words)
 {
     int report[2];
     sigset_t mask;
-    struct report told = {0, 0};
+    struct report told = {0, 0, 0};
     sigemptyset(&mask);
     for (size_t i = 0; i < sizeof HANDED_ON / sizeof *HANDED_ON; i++)
         sigaddset(&mask, HANDED_ON[i]);

@@ -157,6 +157,18 @@ bool session_setting(int setting)
     return next_turn() % 30 != 0;
 }
 
+int session_revoke(int32_t id)
+{
+    errno = EKEYREVOKED;
+    return id == -3 ? (int)(next_turn() % 3) - 1 : 0;
+}
+
+bool set_is_container(const struct set *set)
+{
+    (void)set;
+    return next_turn() % 2 == 0;
+}
+
 /* Users of a container are told as its uids. */
 uint32_t session_shown(uint32_t user)
 {

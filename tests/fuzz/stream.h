@@ -50,7 +50,7 @@ __attribute__((unused)) static ssize_t fuzz_read(int descriptor, void *to, size_
 }
 
 /* Looks at every byte, so that the sanitizer does. */
-static ssize_t fuzz_write(int descriptor, const void *from, size_t size)
+__attribute__((unused)) static ssize_t fuzz_write(int descriptor, const void *from, size_t size)
 {
     unsigned how = next_turn();
     unsigned char seen = 0;
