@@ -414,9 +414,9 @@ static int ask_bytes(struct reqkey *session, const void **bytes)
 /* Bytes that may be read as a string. */
 static int ask_text(struct reqkey *session, const char **text)
 {
-    const void *bytes = NULL;
+    const void *bytes = NULL; /* as long as there is an error */
     int length = ask_bytes(session, &bytes);
-    if (length < 0)
+    if (bytes == NULL)
         return length;
     if (memchr(bytes, 0, (size_t)length) != NULL)
         return over(session, REQKEY_MALFORMED);
