@@ -11,8 +11,10 @@ import re
 import shlex
 import shutil
 import sys
+import tempfile
 
 import protocol_peer as ask
+from compiled import SANITIZED, compiled, sanitizes
 from counted import Counted
 from daemon import Daemon, text_of, until
 from keyctl_commands import ALONE, CASES, DENIED, EXPIRED, LEFT_OUT, MISSING, NONE, OF_ANY_LENGTH, REJECTED, REVOKED, SERIAL, USAGE, Keyctl
@@ -351,7 +353,20 @@ PRINTED = {
     ],
     "shared": ["child 0 EKEYREVOKED", "threads []"],
     "waiting": ["child 0", "thread 7"],
+    "anew": ["connections 1 0"],
 }
+
+
+def turns(room):
+    """All who wait for the turn are woken when it is given back."""
+    for name, flags in {"plain": ["-O2"], **({"sanitized": SANITIZED} if sanitizes(room, "turn.c") else {})}.items():
+        program = compiled(count, room / f"turns-{name}", top / "tests" / "clients" / "turns.c", "-std=gnu11", "-D_GNU_SOURCE", "-pthread", "-I",
+                           top / "clients" / "keyutils", *flags)
+        done = ran(program, text=True)
+        if done[0] == 77:
+            print("turn.c: not tried, there is no /proc/self/syscall")
+        else:
+            count.same(f"who is woken, {name}", done, (0, "woken 5 of 5, served 5\n", ""))
 
 
 def called(keys):
@@ -421,6 +436,8 @@ for at, (program, library, before) in enumerate(everywhere(count)):
     if at == 0:
         fits_header()
         symbols(library, documented())
+        with tempfile.TemporaryDirectory(prefix="turns-") as folder:
+            turns(pathlib.Path(folder))
     tries(program, library, *before)
     if not before:
         stock(program, library)

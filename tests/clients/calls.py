@@ -160,4 +160,26 @@ def shared():
     print("threads", wrong)
 
 
+def anew():
+    """A process that calls for long connects anew once in some 50,000 calls, and not at each call after them."""
+    def connection():
+        return sorted(link for link in map(linked, os.listdir("/proc/self/fd")) if link.startswith("socket:"))
+
+    def linked(number):
+        try:
+            return os.readlink(f"/proc/self/fd/{number}")
+        except FileNotFoundError:  # the folder that was listed
+            return ""
+
+    key = call("add_key", b"user", b"n", b"v", 1, USER)
+    read = library.keyctl_read
+    read.argtypes = [ctypes.c_int, ctypes.c_void_p, ctypes.c_size_t]
+    seen = [connection()]
+    wrong = sum(read(key, None, 0) != 1 for _ in range(49_900))
+    for _ in range(300):
+        seen.append(connection())
+        wrong += read(key, None, 0) != 1
+    print("connections", sum(one != other for one, other in zip(seen, seen[1:])), wrong)
+
+
 globals()[sys.argv[2]]()
