@@ -106,10 +106,11 @@ def answering(*bodies, split=False):
 class Daemon:
     """A socket that serves one client: for each frame that it gets it sends the next of these bytes, and after the last one it sends no more.
 
-    None in their place closes without a reply; `split` sends each byte by itself. `heard` has the bodies that came."""
+    None in their place closes without a reply; `split` sends each byte by itself. One that `stays` says nothing after them, and doesn't end. `heard` has the
+    bodies that came."""
 
-    def __init__(self, replies, split=False):
-        self.replies, self.split = replies, split
+    def __init__(self, replies, split=False, stays=False):
+        self.replies, self.split, self.stays = replies, split, stays
         self.heard, self.more = [], b""
         self.room = tempfile.TemporaryDirectory(prefix="peer-")
         self.path = str(pathlib.Path(self.room.name) / "s")
@@ -138,7 +139,8 @@ class Daemon:
                         return
                     for piece in [bytes([byte]) for byte in reply] if self.split else [reply]:
                         client.sendall(piece)
-                client.shutdown(socket.SHUT_WR)
+                if not self.stays:
+                    client.shutdown(socket.SHUT_WR)
                 self.more = stream.read()
             except OSError:
                 pass

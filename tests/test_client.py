@@ -4,9 +4,11 @@
 Each subcommand: without arguments, with bad ones, and with good ones, whose frame is compared byte by byte. Then the options, every kind of reply, and
 replies that are cut, too long, malformed, or come byte by byte.
 """
+import contextlib
 import os
 import pathlib
 import shutil
+import socket
 import subprocess
 import sys
 import tempfile
@@ -54,6 +56,11 @@ GOOD = [
     (["callout"], peer.CALLOUT),
 ]
 
+# what only a handler asks
+HANDLERS = ["assume", "instantiate", "negate", "reject", "default", "callout"]
+# one call of each subcommand
+ONE_EACH = list({words[0]: (words, ask) for words, ask in reversed(GOOD)}.values())
+
 # usage errors, besides each subcommand with fewer arguments and with one more
 BAD = [
     [], ["nothing"], ["READ", "3"], ["read", "x"], ["read", ""], ["read", "-7"], ["read", "+3"], ["read", "-1"], ["read", "2147483648"], ["read", "none"],
@@ -65,7 +72,8 @@ BAD = [
     ["link", "3", "-1"], ["unlink", "x", "1"], ["clear", "-3"], ["default", "0"], ["default", "none"], ["default", "group"],
     ["add", "user", "k", "v", "x"], ["--", "read", "3"], ["--nothing", "read", "3"], ["-s", "x", "read", "3"], ["--sock", "x", "read", "3"],
     ["--uid", "+1", "read", "3"], ["--uid", "-1", "read", "3"], ["--uid", "4294967296", "read", "3"], ["--uid", "", "read", "3"], ["--uid", "read", "3"],
-    ["--gid", "x", "read", "3"], ["--join", "2147483648", "read", "3"], ["--uid", "1", "--uid", "1", "read", "3"], ["--raw", "--raw", "read", "3"],
+    ["--gid", "x", "read", "3"], ["--timeout", "x", "read", "3"], ["--timeout", "4294967296", "read", "3"], ["--timeout", "1", "--timeout=1", "read", "3"],
+    ["--timeout", "1"], ["--join", "2147483648", "read", "3"], ["--uid", "1", "--uid", "1", "read", "3"], ["--raw", "--raw", "read", "3"],
     ["--raw=1", "read", "3"], ["--raw=", "read", "3"], ["--uid=", "read", "3"], ["--socket", "a", "--socket=b", "read", "3"], ["--socket"],
     ["--socket", "s"], ["--uid=1"], ["--payload-from", "f", "read", "3"], ["--callout-from", "f", "instantiate", "3", "none"],
     ["--payload-from", "-", "instantiate", "3", "none"], ["--callout-from", "-", "request", "user", "a", "none"],
@@ -138,6 +146,7 @@ SAID = [
     (["reject", "3", "0", "125", "none"], "<error> is the number of an error, 126 to 129"),
     (["default", "none"], "<setting> is keep, default, thread, process, session, user or requestor"),
     (["--uid", "+1", "read", "3"], "invalid value '+1' for '--uid <N>': a number has digits alone"),
+    (["--timeout", "+1", "read", "3"], "invalid value '+1' for '--timeout <N>': a number has digits alone"),
     (["--gid=+1", "read", "3"], "invalid value '+1' for '--gid <N>': a number has digits alone"),
     (["--join", "+1", "read", "3"], "invalid value '+1' for '--join <N>': a number has digits alone"),
     (["--uid", "-h", "read", "3"], "a value is required for '--uid <N>' but none was supplied"),
@@ -149,7 +158,7 @@ SAID = [
     (["list"], "neither '--socket <PATH>' nor REQKEYD_SOCKET says where the daemon is"),
     (["--uid", "1000", "sweep"], "neither '--socket <PATH>' nor REQKEYD_SOCKET says where the daemon is"),
     (["--uid", "+1", "list"], "invalid value '+1' for '--uid <N>': a number has digits alone"),
-    *[(["--socket", "s", *words, "list"], "'list' and 'sweep' take no other options than '--socket', '--uid' and '--gid'") for words in
+    *[(["--socket", "s", *words, "list"], "'list' and 'sweep' take no other options than '--socket', '--timeout', '--uid' and '--gid'") for words in
       [["--raw"], ["--quiet"], ["--join", "5"], ["--payload-from", "f"], ["--callout-from", "f"]]],
     (["run"], "the following required arguments were not provided:"),
     (["run", "--nothing", "--", "true"], "unexpected argument '--nothing' found"),
@@ -160,7 +169,7 @@ SAID = [
       [("--library", "/l", "FILE"), ("--uid", "1", "N"), ("--gid", "1", "N")]],
     (["run", "--trap=", "--", "true"], "unexpected value '' for '--trap' found; no more were expected"),
     *[([*before, option, f"{most + 1}", *behind], f"invalid value '{most + 1}' for '{option} <N>': {most + 1} is not in 0..={most}")
-      for before, behind, options in [([], ["read", "3"], ["--uid", "--gid", "--join"]), (["run"], ["--", "true"], ["--uid", "--gid"])]
+      for before, behind, options in [([], ["read", "3"], ["--timeout", "--uid", "--gid", "--join"]), (["run"], ["--", "true"], ["--uid", "--gid"])]
       for option, most in [(it, 2147483647 if it == "--join" else 4294967295) for it in options]],
 ]
 
@@ -246,11 +255,11 @@ def fails(program, reply):
     return differs(ran(program, "read", "3", input=reply), (1, peer.frame(peer.on_key(7, 3)), STREAMS if cut else NO_REPLY_IN))
 
 
-def no_daemon(program, path, reason):
+def no_daemon(program, path, reason, options=()):
     """A socket that can't be reached: the path and the system's reason, of a request and of a program that is to be run."""
     want = SOCKET + f"  {path}: {reason}\n".encode()
     runs = ran(program, "run", "--socket", path, "--library", "/dev/null", "--", "true")
-    return differs(ran(program, "--socket", path, "read", "3", input=b""), (1, b"", want)) or differs(runs, (1, b"", want))
+    return differs(ran(program, "--socket", path, *options, "read", "3", input=b""), (1, b"", want)) or differs(runs, (1, b"", want))
 
 
 def full_output(program):
@@ -389,16 +398,60 @@ def at_terminal(program, words, status, want):
     return differs((ended, want.encode() in (shown if status == 0 else errors), shown == b"end"), (status, True, status != 0))
 
 
-def by_environment(program, stdin, stdout, named):
-    """REQKEYD_SOCKET names the socket, unless an option does, or both streams are pipes, as a handler's are: those are the daemon's."""
+def by_environment(program, stdin, stdout, named, words, ask):
+    """REQKEYD_SOCKET names the socket, unless an option does. But what only a handler asks goes over the streams where both are pipes."""
     piped = stdin == stdout == subprocess.PIPE
-    with peer.answering(RINGS, SEVEN) as daemon:
-        words = ["--socket", daemon.path] if named else []
+    with peer.answering(*[RINGS] * (words != ["hello"]), SEVEN) as daemon:
+        option = ["--socket", daemon.path] if named else []
         environment = {"REQKEYD_SOCKET": "/dev/null/none" if named else daemon.path}
-        status, output, errors = ran(program, *words, "read", "3", stdin=stdin, stdout=stdout, env=environment)
-    if piped and not named:
-        return differs((output, errors, daemon.heard), (peer.frame(peer.on_key(7, 3)), STREAMS, []))
-    return differs((status, errors, daemon.heard), (0, b"", [peer.hello(), peer.on_key(7, 3)]))
+        status, output, errors = ran(program, *option, *words, stdin=stdin, stdout=stdout, env=environment)
+    if piped and not named and words[0] in HANDLERS:
+        return differs((output, errors, daemon.heard), (peer.frame(ask), STREAMS, []))
+    said = [ask] if words == ["hello"] else [peer.hello(), ask]
+    return differs((status, output or b"", errors, daemon.heard), (0, b"7\n" if stdout == subprocess.PIPE else b"", b"", said))
+
+
+def list_between_pipes(program):
+    """A list between two pipes, as in `ssh HOST reqkeyctl list`, is of the daemon that the environment names."""
+    with peer.answering(peer.rings(0, 0, 5, 2), peer.data(b"user;0;valid;a")) as daemon:
+        got = ran(program, "list", input=b"", env={"REQKEYD_SOCKET": daemon.path})
+        daemon.ended()
+    return differs((got, daemon.heard), ((0, b"1 user;0;valid;a\n", b""), [peer.hello(), peer.on_key(8, 1)]))
+
+
+def is_late(path, seconds):
+    """What is told of a daemon that was waited for so long."""
+    return 1, b"", SOCKET + f"  {path}: no reply within {seconds} s\n".encode()
+
+
+def gives_up(program, words, replies, said):
+    """A daemon that sends these bytes, and no more, but keeps the connection: the time is that of all replies together."""
+    with peer.Daemon([*replies, *[b""] * (len(said) - len(replies))], stays=True) as daemon:
+        got = ran(program, "--socket", daemon.path, "--timeout", "1", *words)
+        daemon.ended()
+    return differs((got, daemon.heard), (is_late(daemon.path, 1), said))
+
+
+def gives_up_connecting(program, room):
+    """A daemon whose queue is full, where connect(2) would wait."""
+    path = str(pathlib.Path(tempfile.mkdtemp(dir=room)) / "s")
+    with contextlib.ExitStack() as stack:
+        listener = stack.enter_context(socket.socket(socket.AF_UNIX))
+        listener.bind(path)
+        listener.listen(0)
+        for _ in range(8):
+            waiting = stack.enter_context(socket.socket(socket.AF_UNIX))
+            waiting.setblocking(False)
+            with contextlib.suppress(BlockingIOError):
+                waiting.connect(path)
+        return differs([ran(program, "--socket", path, "--timeout", "1", *words) for words in [["read", "3"], ["list"]]], [is_late(path, 1)] * 2)
+
+
+def in_time(program, words, replies, want):
+    """A daemon that answers before the time is over."""
+    with peer.answering(*replies) as daemon:
+        got = ran(program, "--socket", daemon.path, "--timeout", "4294967295", *words)
+        return differs(got, want) or no_daemon(program, daemon.path + "x", "No such file or directory", ["--timeout=1"])
 
 
 def helps(program, words, *wanted):
@@ -455,6 +508,7 @@ def cases(room):
         (["--uid", "1000"], peer.hello(uid=1000)),
         (["--uid=4294967295", "--gid=4294967295"], peer.hello(4294967295, 4294967295)),
         (["--gid", "5", "--join", "2147483647"], peer.hello(0, 5, 2147483647)),
+        (["--timeout", "0"], peer.hello()),
         (["--join", "0", "--uid", "0007"], peer.hello(7)),
         (["--raw"], peer.hello()),
     ]:
@@ -516,7 +570,16 @@ def cases(room):
     for stdin in [subprocess.PIPE, subprocess.DEVNULL]:
         for stdout in [subprocess.PIPE, subprocess.DEVNULL]:
             for named in [False, True]:
-                yield f"REQKEYD_SOCKET with streams {stdin} and {stdout}, {named}", by_environment, stdin, stdout, named
+                for words, asked in ONE_EACH:
+                    yield f"REQKEYD_SOCKET with streams {stdin} and {stdout}, {named}, {words[0]}", by_environment, stdin, stdout, named, words, asked
+    yield "a list between two pipes", list_between_pipes
+    hello, half = peer.frame(RINGS), peer.frame(SEVEN)[:5]
+    for words, replies, said in [(["hello"], [], [peer.hello()]), (read, [], [peer.hello()]), (read, [hello], [peer.hello(), ask]),
+                                 (read, [hello, half], [peer.hello(), ask]), (["list"], [peer.frame(peer.rings(0, 0, 5, 2))], [peer.hello(), peer.on_key(8, 1)])]:
+        yield f"{words} of a daemon that sends {len(replies)} replies in time", gives_up, words, replies, said
+    yield "a daemon whose queue is full", gives_up_connecting, room
+    yield "a reply in time", in_time, read, [RINGS, SEVEN], (0, b"7\n", b"")
+    yield "a list in time", in_time, ["list"], [peer.rings(0, 0, 1, 2)], (0, b"", b"")
     yield "a full device", full_output
     yield "an input that can't be read", closed_input
     yield "two runs in a script", two_in_a_script
@@ -531,11 +594,12 @@ def cases(room):
     yield "an empty callout from a file", from_file, ask_key, "--callout-from", b"", peer.request(b"user", b"a", b"", 0)
     yield "a callout from a file without text", from_file, ask_key, "--callout-from", b"\xff", None, "<callout> is at most 4095 bytes of text, for the handler"
     if not lacks("allocations that are refused", "gcc"):
-        socket, long = ["--socket", "PATH"], b"p" * 32767
+        at, long = ["--socket", "PATH"], b"p" * 32767
         yield "memory of a handler", lacks_memory, read, peer.frame(SEVEN), [], (0, peer.frame(ask), b"7\n")
-        yield "memory of a client", lacks_memory, [*socket, *read], b"", [RINGS, SEVEN], (0, b"7\n", b"")
-        yield "memory of a run", lacks_memory, ["run", *socket, "--library", library("refusing_malloc"), "--", "/bin/true"], b"", [RINGS], (0, b"", b"")
-        from_input = [*socket, "--payload-from", "-", "instantiate", "3", "none"]
+        yield "memory of a client", lacks_memory, [*at, *read], b"", [RINGS, SEVEN], (0, b"7\n", b"")
+        yield "memory of a client that waits so long", lacks_memory, [*at, "--timeout", "1000000", *read], b"", [RINGS, SEVEN], (0, b"7\n", b"")
+        yield "memory of a run", lacks_memory, ["run", *at, "--library", library("refusing_malloc"), "--", "/bin/true"], b"", [RINGS], (0, b"", b"")
+        from_input = [*at, "--payload-from", "-", "instantiate", "3", "none"]
         yield "memory of long bytes", lacks_memory, from_input, long, [RINGS, peer.data(long)], (0, long + b"\n", b"")
     for word in ["--help", "-h"]:
         lists = [*[f"  {name} " for name in FEWEST], *[f"{errno} {name}" for errno, name in ERRNOS.items()], "--payload-from", "Status:"]

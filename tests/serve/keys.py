@@ -8,6 +8,7 @@ from daemon import Daemon, until
 from programs import differs, top
 
 SCRIPT = '#!/bin/sh\n%ctl assume "$1" && %ctl instantiate "$1" made none\n'
+LONGER = '#!/bin/sh\n%ctl assume "$1" && %ctl timeout "$1" 3600 && %ctl read auth && %ctl request user none none\n%ctl instantiate "$1" made none\n'
 USER = ["--uid", "1000"]
 
 
@@ -37,8 +38,9 @@ def scripted(program, script=SCRIPT, said=("0", "0"), environment=None):
 
 
 def astray(program):
-    """A handler that is a shell script speaks to its own daemon, whatever socket the daemon's environment names; with `--quiet` it leaves no line."""
-    return scripted(program, SCRIPT.replace("%ctl", "%ctl --quiet"), (), {"REQKEYD_SOCKET": "/dev/null/none"})
+    """A handler that is a shell script speaks to its own daemon, whatever it asks and whatever socket the daemon's environment names; with `--quiet` it leaves
+    no line but a refusal."""
+    return scripted(program, LONGER.replace("%ctl", "%ctl --quiet"), ("errno 126",), {"REQKEYD_SOCKET": "/dev/null/none"})
 
 
 def looked_for(program):
@@ -223,13 +225,14 @@ def decided(program):
 
 
 def of_the_daemon(program):
-    """A handler has the daemon's environment and folder, and SIGPIPE ends it, as a program that a shell starts."""
-    with Daemon(program, "create user p:* * |%room/handler\n", environment={"OF_THE_DAEMON": "a word"}) as daemon, daemon.client() as client:
-        daemon.script("handler", '#!/bin/sh\necho "$OF_THE_DAEMON"\npwd -P\nyes 2>&1 | head -n 1\ngrep SigIgn /proc/self/status\n')
+    """A handler has the daemon's environment and folder, and SIGPIPE ends it, as a program that a shell starts. Only a plain one is told of no socket."""
+    environment = {"OF_THE_DAEMON": "a word", "REQKEYD_SOCKET": "/s"}
+    with Daemon(program, "create user p:* * |%room/handler\n", environment=environment) as daemon, daemon.client() as client:
+        daemon.script("handler", '#!/bin/sh\necho "$OF_THE_DAEMON $REQKEYD_SOCKET"\npwd -P\nyes 2>&1 | head -n 1\ngrep SigIgn /proc/self/status\n')
         key = client.ask(ask.request(b"user", b"p:1", b"x", -4))
         *lines, ignored = client.ask(ask.on_key(7, key)).decode().split("\n")[:-1]
         is_ignored = int(ignored.split("\t")[1], 16) >> signal.SIGPIPE - 1 & 1
-        return differs((key, lines, is_ignored), (12, ["a word", os.path.realpath("."), "y"], 0))
+        return differs((key, lines, is_ignored), (12, ["a word /s", os.path.realpath("."), "y"], 0))
 
 
 def expires_for_all(program):

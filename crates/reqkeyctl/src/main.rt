@@ -2,9 +2,11 @@
 //!
 //! All that it does is one call of the library `rk_ctl`, [`rk_ctl::run_words`], over the words and streams of a process, and the host and the daemon of the
 //! system. That call's contract has what the program promises. Here stands what the system has, and no contract can speak of: `process` says what the
-//! environment and the streams lead to, and `sockets` is how a daemon is reached.
+//! environment and the streams lead to, and `sockets` is how a daemon is reached, over a `connection` that waits until a `deadline`.
 #![tactic(auto)]
 
+mod connection;
+mod deadline;
 mod process;
 mod sockets;
 

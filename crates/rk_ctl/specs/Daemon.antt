@@ -5,19 +5,20 @@ use Rattle.rk_message.specs.declared.reply.Reply.{Reply}
 use Rattle.rk_client.specs.declared.fault.PeerFault.{PeerFault}
 use Rattle.rk_client.specs.Peer.{HasAsked, HasGreeted}
 use Rattle.rk_ctl.specs.declared.search.Search.{Search}
+use Rattle.rk_ctl.specs.Addresses.{AddressSaid}
 use Rattle.rk_ctl.specs.Searching.{FoundSaid}
 
--- one connection: the path of the socket, the HELLO that is said first, if one is, what is asked after it, and the result
+-- one connection: where the daemon is, the HELLO that is said first, if one is, what is asked after it, and the result
 pub record Conversation : Type 0 where
-  pub path : List ℕ
+  pub address : AddressSaid
   pub greeting : Option Ask
   pub ask : Ask
   pub answer : Result Reply PeerFault
 
--- what is said to it: an ask; or a search for keys, by the path of the socket, the HELLO, what they are looked for, for, and the result
+-- what is said to it: an ask; or a search for keys, by where the daemon is, the HELLO, what they are looked for, for, and the result
 pub data Talk : Type 0 where
   Asked : Conversation → Talk
-  Searched : List ℕ → Ask → Search → Result FoundSaid PeerFault → Talk
+  Searched : AddressSaid → Ask → Search → Result FoundSaid PeerFault → Talk
 
 -- this was said, too
 abbrev pub and_then : Option (List Talk) → Talk → Option (List Talk)

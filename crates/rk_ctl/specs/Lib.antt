@@ -1,3 +1,4 @@
+pub mod Addresses
 pub mod Around
 pub mod Calls
 pub mod Daemon

@@ -24,14 +24,14 @@ told_reply options reply = if options.quiet then [] else printed options.raw rep
 abbrev pub HasTold : Option (List ℕ) → Option (List ℕ) → Type 0
 HasTold contents contents' = (text : List ℕ) × Appends contents contents' text
 
--- the ask of the words went to the socket that they name, or else to that of the environment, once, after the HELLO of their options, and this is the answer:
--- what was said to the daemon, before and after
+-- the ask of the words went to the socket that they name, or else to that of the environment, once, after the HELLO of their options and with their time, and
+-- this is the answer: what was said to the daemon, before and after
 pub record HasAskedAs (call : CallSaid) (ask : Ask) (answer : Result Reply PeerFault) (around : Around) (words : List (List ℕ)) (said said' : Option (List Talk)) : Type 0 where
   pub is_call : call_in around words ≡ Some call
   pub path : List ℕ
   pub is_socket : call.options.socket ≡ Some path
   pub asks : Asks call ask
-  pub once : said' ≡ and_then said (Asked (record { path = path; greeting = greeting_before call; ask = ask; answer = answer }))
+  pub once : said' ≡ and_then said (Asked (record { address = record { path = path; seconds = call.options.timeout }; greeting = greeting_before call; ask = ask; answer = answer }))
 
 -- what a run with status 0 did, by its words: what was said to the daemon, what was left to read, what was written and what was told, before and after
 pub data HasDone (around : Around) (words : List (List ℕ)) (said said' : Option (List Talk)) (unread unread' written written' told told' : Option (List ℕ)) : Type 0 where
@@ -43,7 +43,7 @@ pub data HasDone (around : Around) (words : List (List ℕ)) (said said' : Optio
   asked_as_client : (call : CallSaid) (ask : Ask) (reply : Reply) → HasAskedAs call ask (Ok reply) around words said said' → is_refusal reply ≡ false
       → Appends written written' (told_reply call.options reply) → HasDone around words said said' unread unread' written written' told told'
   searched : (survey : SurveySaid) (text : List ℕ) → survey_said around words ≡ Some survey
-      → said' ≡ and_then said (Searched survey.path (greeting_for survey) survey.search (Ok (Told text))) → Appends written written' text
+      → said' ≡ and_then said (Searched survey.address (greeting_for survey) survey.search (Ok (Told text))) → Appends written written' text
       → HasDone around words said said' unread unread' written written' told told'
   ran : IsSome (wanted_said words) → said' ≡ said → unread' ≡ unread → written' ≡ written → HasDone around words said said' unread unread' written written' told told'
 
@@ -53,5 +53,5 @@ pub data HasSpoken (around : Around) (words : List (List ℕ)) (said said' : Opt
   spoke : (call : CallSaid) (ask : Ask) (answer : Result Reply PeerFault) → HasAskedAs call ask answer around words said said'
       → MatchResult answer (λ reply. is_refusal reply ≡ true → status ≡ 1) (λ fault. status ≡ 1) → HasSpoken around words said said' status
   looked : (survey : SurveySaid) (answer : Result FoundSaid PeerFault) → survey_said around words ≡ Some survey
-      → said' ≡ and_then said (Searched survey.path (greeting_for survey) survey.search answer)
+      → said' ≡ and_then said (Searched survey.address (greeting_for survey) survey.search answer)
       → MatchResult answer (λ f. (e : Errno) → f ≡ Turned e → status ≡ 1) (λ fault. status ≡ 1) → HasSpoken around words said said' status

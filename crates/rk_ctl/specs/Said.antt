@@ -12,6 +12,7 @@ use Rattle.rk_ctl.specs.declared.call.Options.{Options}
 -- what stands before the op; 0 for a number that is not given
 pub record OptionsSaid : Type 0 where
   pub socket : Option (List ℕ)
+  pub timeout : ℕ
   pub uid : ℕ
   pub gid : ℕ
   pub join : ℕ
@@ -30,6 +31,7 @@ pub record CallSaid : Type 0 where
 abbrev pub options_by : Options → OptionsSaid
 options_by o = record {
   socket = option_map (λ s. s.now) o.socket;
+  timeout = o.timeout;
   uid = o.uid;
   gid = o.gid;
   join = o.join;
@@ -50,7 +52,8 @@ flags = codes "--raw" ∷ codes "--quiet" ∷ []
 -- all options
 abbrev pub is_option : List ℕ → Bool
 is_option name = is_among (
-    codes "--socket" ∷ codes "--uid" ∷ codes "--gid" ∷ codes "--join" ∷ codes "--raw" ∷ codes "--quiet" ∷ codes "--payload-from" ∷ codes "--callout-from" ∷ []
+    codes "--socket" ∷ codes "--timeout" ∷ codes "--uid" ∷ codes "--gid" ∷ codes "--join" ∷ codes "--raw" ∷ codes "--quiet" ∷ codes "--payload-from"
+    ∷ codes "--callout-from" ∷ []
     ) name
 
 -- an option that has no value
@@ -78,10 +81,11 @@ op_and_more (word ∷ next ∷ words) = or_op (op_said word) (next ∷ words)
     (if is_flag_with_value word then None else (if is_alone word then op_and_more (next ∷ words) else op_and_more words))
 
 -- all of them
-abbrev pub together : Option (Option (List ℕ)) → Option ℕ → Option ℕ → Option ℕ → Option (Option (List ℕ)) → Option (Option (List ℕ))
+abbrev pub together : Option (Option (List ℕ)) → Option ℕ → Option ℕ → Option ℕ → Option ℕ → Option (Option (List ℕ)) → Option (Option (List ℕ))
     → Option (Option (List ℕ)) → Option (Option (List ℕ)) → Option OptionsSaid
-together (Some socket) (Some uid) (Some gid) (Some join) (Some raw) (Some quiet) (Some payload_from) (Some callout_from) = Some (record {
+together (Some socket) (Some timeout) (Some uid) (Some gid) (Some join) (Some raw) (Some quiet) (Some payload_from) (Some callout_from) = Some (record {
   socket = socket;
+  timeout = timeout;
   uid = uid;
   gid = gid;
   join = join;
@@ -90,12 +94,13 @@ together (Some socket) (Some uid) (Some gid) (Some join) (Some raw) (Some quiet)
   payload_from = payload_from;
   callout_from = callout_from;
 })
-together _ _ _ _ _ _ _ _ = None
+together _ _ _ _ _ _ _ _ _ = None
 
 -- each known, there once at most, and with a value that is allowed
 abbrev pub options_in : Option (List Given) → Option OptionsSaid
 options_in options = if all_named is_option options then together
     (value_in (codes "--socket") options)
+    (number_in (codes "--timeout") 0 (number_up_to 4294967295) options)
     (number_in (codes "--uid") 0 (number_up_to 4294967295) options)
     (number_in (codes "--gid") 0 (number_up_to 4294967295) options)
     (number_in (codes "--join") 0 (number_up_to 2147483647) options)

@@ -5,20 +5,21 @@ use Rattle.rk_message.specs.declared.ask.AskOf.TheVariants as ask
 use Rattle.rk_ctl.specs.declared.around.Around.{Around}
 use Rattle.rk_ctl.specs.declared.search.Search.{Search}
 use Rattle.rk_ctl.specs.declared.survey.Survey.{Survey}
+use Rattle.rk_ctl.specs.Addresses.{AddressSaid, address_by}
 use Rattle.rk_ctl.specs.Around.{or_else, socket_around}
 use Rattle.rk_ctl.specs.Said.{OptionsSaid, options_said}
 use Rattle.rk_ctl.specs.Searches.{search_named}
 
 -- where the daemon is, who acts, and what the keys are looked for, for
 pub record SurveySaid : Type 0 where
-  pub path : List ℕ
+  pub address : AddressSaid
   pub uid : ℕ
   pub gid : ℕ
   pub search : Search
 
 -- the same, of what was read
 abbrev pub survey_by : Survey → SurveySaid
-survey_by s = record { path = s.path.now; uid = s.uid; gid = s.gid; search = s.search }
+survey_by s = record { address = address_by s.address; uid = s.uid; gid = s.gid; search = s.search }
 
 -- the search that the only word names
 abbrev pub search_alone : List (List ℕ) → Option Search
@@ -26,14 +27,14 @@ search_alone [] = None
 search_alone (word ∷ []) = search_named word
 search_alone (word ∷ next ∷ words) = None
 
--- no option but the socket, the uid and the gid
+-- no option but the socket, the time, the uid and the gid
 abbrev pub is_bare : OptionsSaid → Bool
 is_bare o = (o.join == 0) && not o.raw && not o.quiet && is_none o.payload_from && is_none o.callout_from
 
 -- with a socket
 abbrev pub at_path : Search → OptionsSaid → Option (List ℕ) → Option SurveySaid
 at_path search o None = None
-at_path search o (Some path) = Some (record { path = path; uid = o.uid; gid = o.gid; search = search })
+at_path search o (Some path) = Some (record { address = record { path = path; seconds = o.timeout }; uid = o.uid; gid = o.gid; search = search })
 
 -- by the command and the options
 abbrev pub survey_in : Around → Option Search → Option OptionsSaid → Option SurveySaid

@@ -1,6 +1,8 @@
 //! What is around a call: where the environment says that the daemon is, and what the standard streams lead to.
 ghost use Rattle.std.specs.Prelude.{◌≡◌, option_map};
-ghost use Rattle.rk_ctl.specs.Around.{socket_around};
+ghost use Rattle.rk_ctl.specs.Around.{is_handlers, socket_around, socket_for};
+
+use rk_message::Op;
 
 /// What is around a call.
 #[derive(Drop)]
@@ -23,13 +25,34 @@ pub struct Invocation<'a> {
 }
 
 impl Around {
-    /// The socket for a call that names none: that of the environment, but none if the streams may be those of a handler.
+    /// The socket that the environment names.
     pub fn socket(&self) -> Option<&str>
         ensures { option_map (λ s. s.now) result ≡ socket_around self.now }
     {
         match &self.socket {
-            Some(path) if !self.piped => Some(path.as_str()),
-            _ => None,
+            Some(path) => Some(path.as_str()),
+            None => None,
         }
     }
+
+    /// The socket for a call of this op that names none: that of the environment; but none between two pipes for what only a handler asks, since its daemon is
+    /// at their other ends.
+    pub fn socket_for(&self, op: Op) -> Option<&str>
+        ensures { option_map (λ s. s.now) result ≡ socket_for self.now op }
+    {
+        if self.piped && is_handlers(op) {
+            return None;
+        }
+        self.socket()
+    }
+}
+
+/// Whether only a handler asks this.
+fn is_handlers(op: Op) -> bool
+    ensures { result ≡ is_handlers op }
+{
+    matches!(
+        op,
+        Op::Assume | Op::Instantiate | Op::Negate | Op::Reject | Op::Default | Op::Callout
+    )
 }

@@ -16,20 +16,27 @@ use rk_message::{Ask, FieldKind, Greeting, Op};
 use rk_names::Serial;
 use std::alloc::{AllocError, Global};
 use std::fs::Files;
-use std::io::{Error, Read};
+use std::io;
+use std::io::Read;
+use thiserror::Error;
 
 /// Why a call is no ask.
-#[derive(Clone, Copy)]
+#[derive(Clone, Copy, Debug, Error)]
 pub enum AskFault {
     /// Its arguments are not those of its op.
+    #[error("{0}")]
     Words(ArgumentFault),
     /// A file stands for an argument that it can't be.
+    #[error("{0}")]
     Place(Misplaced),
     /// The file can't be read, as the system says.
-    File(Error),
+    #[error("the file can't be read: {0}")]
+    File(io::Error),
     /// The bytes of the file are not allowed.
+    #[error("the bytes of the file: {0}")]
     Bytes(ArgumentFault),
     /// There was no memory.
+    #[error("out of memory")]
     NoMemory,
 }
 

@@ -1,6 +1,6 @@
 //! The words of a call: options, an op and its arguments.
 ghost use Rattle.std.specs.Prelude.{◌≡◌, ◌<◌, IfSome, length, map, option_map, string_bytes};
-ghost use Rattle.rk_ctl.specs.Around.{call_in, or_else, socket_around};
+ghost use Rattle.rk_ctl.specs.Around.{call_in, or_else};
 ghost use Rattle.rk_ctl.specs.Said.{call_by, call_said, is_alone, is_flag, is_flag_with_value, op_and_more, options_by, options_said};
 
 use crate::around::Around;
@@ -13,6 +13,8 @@ use rk_message::Op;
 pub struct Options<'a> {
     /// The socket of the daemon; without one it is at the other ends of the standard streams.
     pub socket: Option<&'a str>,
+    /// For how many seconds the daemon at a socket is waited for; 0 for as long as it takes, and if none is given.
+    pub timeout: u32,
     /// The user to act for, 0 if none is given.
     pub uid: u32,
     /// The group to act for, 0 if none is given.
@@ -41,8 +43,9 @@ pub struct Call<'a> {
 }
 
 /// All options, with their dashes.
-const OPTIONS: [&str; 8] = [
+const OPTIONS: [&str; 9] = [
     "--socket",
+    "--timeout",
     "--uid",
     "--gid",
     "--join",
@@ -69,26 +72,26 @@ impl<'a> Call<'a> {
         })
     }
 
-    /// The same, with the socket of what is around where the words name none.
+    /// The same, with the socket that what is around has for its op where the words name none.
     pub fn read_in(words: &'a [String], around: &'a Around) -> Option<Call<'a>>
         ensures { option_map call_by result ≡ call_in around.now (map string_bytes words.now) }
     {
         let call = Call::read(words)?;
         let options = Options {
-            socket: or_around(call.options.socket, around),
+            socket: or_else(call.options.socket, around.socket_for(call.op)),
             ..call.options
         };
         Some(Call { options, ..call })
     }
 }
 
-/// The socket that is named, or else that of what is around.
-pub fn or_around<'a>(named: Option<&'a str>, around: &'a Around) -> Option<&'a str>
-    ensures { option_map (λ s. s.now) result ≡ or_else (option_map (λ s. s.now) named.entry) (socket_around around.now) }
+/// The socket that is named, or else another.
+pub fn or_else<'a>(named: Option<&'a str>, other: Option<&'a str>) -> Option<&'a str>
+    ensures { option_map (λ s. s.now) result ≡ or_else (option_map (λ s. s.now) named.entry) (option_map (λ s. s.now) other.entry) }
 {
     match named {
         Some(path) => Some(path),
-        None => around.socket(),
+        None => other,
     }
 }
 
@@ -153,6 +156,7 @@ impl<'a> Options<'a> {
         }
         Some(Options {
             socket: options.value_of("--socket")?,
+            timeout: options.number_or("--timeout", 4_294_967_295, 0)?,
             uid: options.number_or("--uid", 4_294_967_295, 0)?,
             gid: options.number_or("--gid", 4_294_967_295, 0)?,
             join: options.number_or("--join", 2_147_483_647, 0)?,

@@ -23,13 +23,14 @@
 //! # How it is built
 //!
 //! `call` reads the words, `source` a file whose bytes stand for an argument, `asking` makes the ask of both; the library `rk_client` has what is
-//! said and heard. `daemon` is who is asked at a socket, and `conversation` one ask over a connection to it. `search` names the commands that look for keys,
+//! said and heard. `daemon` is who is asked at a socket, `address` where that is, and `conversation` one ask over a connection to it. `search` names the commands that look for keys,
 //! `survey` reads their words, `searching` is what they say over a connection, and `looking` prints what is found. `running` runs a program, by the library
 //! `rk_run`. `around` says what is around a call, and `streams` what it reads and writes. `telling` prints replies, and `trouble` says in words what stood in
 //! the way. `help` shows the manual to words that ask for it, and says what is wrong with words that can't be read, by `manual` and `misuse`. `run` puts it
 //! together.
 #![tactic(auto)]
 
+mod address;
 mod around;
 mod asking;
 mod call;
@@ -49,6 +50,7 @@ mod survey;
 mod telling;
 mod trouble;
 
+pub use address::Address;
 pub use around::{Around, Invocation};
 pub use conversation::converse;
 pub use daemon::Daemon;

@@ -3,6 +3,7 @@ ghost use Rattle.std.specs.Prelude.{◌≡◌, ◌≤◌, List, ℕ, Result, Ok,
 ghost use Rattle.std.specs.Io.KnownBytes.{Appends};
 ghost use Rattle.rk_client.specs.declared.fault.PeerFault.{PeerFault as Faults};
 ghost use Rattle.rk_names.specs.declared.errors.Errno.{Errno};
+ghost use Rattle.rk_ctl.specs.Addresses.{address_by};
 ghost use Rattle.rk_ctl.specs.Daemon.{Searched, and_then};
 ghost use Rattle.rk_ctl.specs.Searching.{FoundSaid, Told, Turned};
 ghost use Rattle.rk_ctl.specs.Surveys.{greeting_for, survey_by};
@@ -25,13 +26,13 @@ pub fn look<D: Daemon, W: Write, E: Write>(
 ) -> u8
     ensures told { result ≡ 0 → (text : List ℕ) × Appends (W.contents writer.old) (W.contents writer.new) text
         × (D.story daemon.new ≡ and_then (D.story daemon.old)
-        (Searched survey.now.path.now (greeting_for (survey_by survey.now)) survey.now.search (Ok (Told text)))) }
+        (Searched (address_by survey.now.address) (greeting_for (survey_by survey.now)) survey.now.search (Ok (Told text)))) }
     ensures spoke { (answer : Result FoundSaid Faults) × (D.story daemon.new ≡ and_then (D.story daemon.old)
-        (Searched survey.now.path.now (greeting_for (survey_by survey.now)) survey.now.search answer))
+        (Searched (address_by survey.now.address) (greeting_for (survey_by survey.now)) survey.now.search answer))
         × MatchResult answer (λ f. (e : Errno) → f ≡ Turned e → result ≡ 1) (λ fault. result ≡ 1) }
     ensures status { result ≤ 1 }
 {
-    match daemon.search(survey.path, &survey.greeting(), survey.search) {
+    match daemon.search(survey.address, &survey.greeting(), survey.search) {
         Ok(Found::Text(text)) => print(&text, writer, errors),
         Ok(Found::Refused(errno)) => refusal(alloc, Reply::Refused(errno), errors),
         Err(fault) => refused(fault, daemon.trouble(), errors),

@@ -17,7 +17,8 @@ With --socket it is a client: it connects, says for whom it acts (HELLO), sends 
 REQKEYD_SOCKET of the environment names the socket.
 
 Without a socket it is the tool of a handler that the daemon has started: it writes the request to standard output, reads exactly its reply from standard \
-input, and prints it on standard error. It is that too without --socket where standard input and output both are pipes, whatever the environment has.
+input, and prints it on standard error. What only a handler asks (assume, instantiate, negate, reject, default, callout) it asks so between two pipes, \
+whatever the environment has.
 
 Options stand before the command, and all words after the command are its arguments. But run starts a program, and its options stand after it.";
 
@@ -256,12 +257,18 @@ fn run<'a>(alloc: Global) -> Result<Command<'a>, AllocError> {
 }
 
 /// The options of the program.
-const OPTIONS: [Described; 6] = [
+const OPTIONS: [Described; 7] = [
     (
         "socket",
         "PATH",
         TEXT,
-        "The socket of the daemon [default: REQKEYD_SOCKET of the environment, except between two pipes]",
+        "The socket of the daemon [default: REQKEYD_SOCKET of the environment, except for a handler between two pipes]",
+    ),
+    (
+        "timeout",
+        "N",
+        NUMBER,
+        "For how many seconds the daemon at a socket is waited for, 0 for as long as it takes [default: 0]",
     ),
     ("uid", "N", NUMBER, "The user to act for [default: 0]"),
     ("gid", "N", NUMBER, "The group to act for [default: 0]"),

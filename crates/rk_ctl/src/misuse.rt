@@ -39,7 +39,7 @@ pub enum Leftover<'a> {
     #[error("invalid value '{0}' for '--library <FILE>': it has to be an absolute path, without a space or a colon")]
     Library(&'a str),
     /// An option that `list` and `sweep` don't take.
-    #[error("'list' and 'sweep' take no other options than '--socket', '--uid' and '--gid'")]
+    #[error("'list' and 'sweep' take no other options than '--socket', '--timeout', '--uid' and '--gid'")]
     Search,
     /// No socket for `list` or `sweep`.
     #[error("neither '--socket <PATH>' nor REQKEYD_SOCKET says where the daemon is")]
@@ -50,7 +50,7 @@ pub enum Leftover<'a> {
 }
 
 /// The options that have numbers.
-const NUMBERS: [&str; 3] = ["--uid", "--gid", "--join"];
+const NUMBERS: [&str; 4] = ["--timeout", "--uid", "--gid", "--join"];
 
 /// Which usage error these words have, in which the manual finds no fault. The first is the name of the program.
 pub fn unnoticed(words: &[String]) -> Leftover<'_> {
@@ -68,7 +68,7 @@ pub fn unnoticed(words: &[String]) -> Leftover<'_> {
     match options.value_of("--library") {
         Some(Some(path)) if !is_library(path) => Leftover::Library(path),
         _ if !searches(words) => Leftover::Run,
-        _ if options.are_known(&["--socket", "--uid", "--gid"]) => Leftover::Nowhere,
+        _ if options.are_known(&["--socket", "--timeout", "--uid", "--gid"]) => Leftover::Nowhere,
         _ => Leftover::Search,
     }
 }

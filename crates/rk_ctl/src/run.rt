@@ -7,6 +7,7 @@ ghost use Rattle.rk_ctl.specs.Outcome.{HasDone, HasSpoken};
 ghost use Rattle.rk_ctl.specs.Programs.{RunsAs};
 ghost use Rattle.rk_ctl.specs.Said.{CallSaid, call_by};
 
+use crate::address::Address;
 use crate::around::{Around, Invocation};
 use crate::asking::{AskFault, ask_for, greeting_before};
 use crate::call::Call;
@@ -29,9 +30,9 @@ use std::io::{Read, Write};
 ///
 /// Of `streams`, `reader` is standard input, `writer` standard output and `errors` standard error. The first word is the name of the program.
 ///
-/// With `--socket`, or else with the socket of what is around, the `daemon` there is asked, after the HELLO of the options; the reply is printed on
-/// `writer`, and `reader` is read only for a file `-`. Without one the peer is at the streams: one ask is written to `writer`, unless that is a terminal,
-/// one reply read from `reader`, and it is printed on `errors`. Help and the version are written to `writer`.
+/// With `--socket`, or else with the socket that what is around has for the op, the `daemon` there is asked, after the HELLO of the options; the reply is
+/// printed on `writer`, and `reader` is read only for a file `-`. Without one the peer is at the streams: one ask is written to `writer`, unless that is a
+/// terminal, one reply read from `reader`, and it is printed on `errors`. Help and the version are written to `writer`.
 ///
 /// If the last word is `list` or `sweep`, after options alone, the daemon is searched for keys ([`crate::find_keys`]), and what is found is
 /// printed on `writer`.
@@ -129,10 +130,16 @@ fn ask_words<R: AllocGlobal + Files, D: Daemon, I: Read + Drop, W: Write + Drop,
     };
     let options = &call.options;
     match options.socket {
-        Some(path) => match daemon.ask(path, greeting_before(&call).as_ref(), &ask) {
-            Ok(reply) => answer(alloc, reply, options, writer, errors),
-            Err(fault) => refused(fault, daemon.trouble(), errors),
-        },
+        Some(path) => {
+            let address = Address {
+                path,
+                seconds: options.timeout,
+            };
+            match daemon.ask(address, greeting_before(&call).as_ref(), &ask) {
+                Ok(reply) => answer(alloc, reply, options, writer, errors),
+                Err(fault) => refused(fault, daemon.trouble(), errors),
+            }
+        }
         None => match exchange(alloc, reader, writer, &ask) {
             Ok(reply) => answer_alone(alloc, reply, options, errors),
             Err(fault) => refused(fault, Some(of_streams(fault)), errors),

@@ -4,17 +4,21 @@ ghost use Rattle.rk_ctl.specs.Sources.{IsStart};
 
 use std::alloc::Global;
 use std::fs::{File, Files};
-use std::io::{Error, ErrorKind, Read};
+use std::io;
+use std::io::{ErrorKind, Read};
+use thiserror::Error;
 
 /// How much of a file is read: more than any argument may have.
 const MOST: u64 = 32_768;
 
 /// Why there are no bytes.
-#[derive(Clone, Copy)]
+#[derive(Clone, Copy, Debug, Error)]
 pub enum SourceFault {
     /// The file can't be opened or read, as the system says.
-    Lost(Error),
+    #[error("the file can't be read: {0}")]
+    Lost(io::Error),
     /// There was no memory for its bytes.
+    #[error("out of memory")]
     NoMemory,
 }
 

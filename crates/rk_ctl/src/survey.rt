@@ -3,16 +3,17 @@ ghost use Rattle.std.specs.Prelude.{◌≡◌, map, option_map, string_bytes};
 ghost use Rattle.rk_ctl.specs.Said.{options_by};
 ghost use Rattle.rk_ctl.specs.Surveys.{greeting_for, is_bare, search_alone, survey_by, survey_said};
 
+use crate::address::Address;
 use crate::around::Around;
-use crate::call::{Options, or_around};
+use crate::call::{Options, or_else};
 use crate::search::Search;
 use rk_message::{Ask, Greeting};
 
 /// Whose keys are looked for, where, and for what.
 #[derive(Clone, Copy)]
 pub struct Survey<'a> {
-    /// The socket of the daemon.
-    pub path: &'a str,
+    /// Where the daemon is.
+    pub address: Address<'a>,
     /// The user to act for.
     pub uid: u32,
     /// The group to act for.
@@ -22,8 +23,8 @@ pub struct Survey<'a> {
 }
 
 impl<'a> Survey<'a> {
-    /// What the words say, of which the first is the name of the program: `--socket`, `--uid` and `--gid`, each at most once, and `list` or `sweep` after
-    /// them. `None` if they say none, or no socket, and what is around names none either.
+    /// What the words say, of which the first is the name of the program: `--socket`, `--timeout`, `--uid` and `--gid`, each at most once, and `list` or
+    /// `sweep` after them. `None` if they say none, or no socket, and what is around names none either.
     pub fn read(words: &'a [String], around: &'a Around) -> Option<Survey<'a>>
         ensures { option_map survey_by result ≡ survey_said around.now (map string_bytes words.now) }
     {
@@ -34,9 +35,12 @@ impl<'a> Survey<'a> {
         if !is_bare(&options) {
             return None;
         }
-        let path = or_around(options.socket, around)?;
+        let path = or_else(options.socket, around.socket())?;
         Some(Survey {
-            path,
+            address: Address {
+                path,
+                seconds: options.timeout,
+            },
             uid: options.uid,
             gid: options.gid,
             search,

@@ -1,13 +1,14 @@
 //! A daemon that tells what is said to it, and what words have said to one.
 ghost use Rattle.std.specs.Prelude.{◌≡◌, [], ◌∷◌, ◌++◌, map, Some, None, string_bytes};
 ghost use Rattle.std.specs.Option.{option_copied};
+ghost use Rattle.rk_ctl.specs.Addresses.{address_by};
 ghost use Rattle.rk_ctl.specs.Outcome.{HasDone, HasSpoken};
 ghost use Rattle.rk_ctl.specs.Searching.{answer_said};
-ghost use Rattle.rk_edge_tests.specs.Said.{to_daemon};
+ghost use Rattle.rk_edge_tests.specs.Said.{socket_kept, to_daemon};
 
-use crate::said::ToDaemon;
+use crate::said::{Socket, ToDaemon};
 use rk_client::PeerFault;
-use rk_ctl::{Around, Daemon, Found, Invocation, Search, Streams, run_words};
+use rk_ctl::{Address, Around, Daemon, Found, Invocation, Search, Streams, run_words};
 use rk_message::{Ask, Reply, ReplyBytes};
 use rk_names::Errno;
 use rk_run::{Here, Host, StartFault};
@@ -59,11 +60,14 @@ impl<'a, R: Abort> Telling<'a, R> {
         }
     }
 
-    /// A copy of a path.
-    fn copy(&self, path: &str) -> String
-        ensures { string_bytes result ≡ path.now }
+    /// A copy of an address.
+    fn copy(&self, address: Address<'_>) -> Socket
+        ensures { socket_kept result ≡ address_by address.entry }
     {
-        String::from_str(self.alloc, path).expect(self.rt, "memory")
+        Socket {
+            path: String::from_str(self.alloc, address.path).expect(self.rt, "memory"),
+            seconds: address.seconds,
+        }
     }
 
     /// A copy of an ask.
@@ -153,19 +157,29 @@ impl<'a, R: Abort> Telling<'a, R> {
 impl<'a, R: Abort> Daemon for Telling<'a, R> {
     ghost story = { λ daemon. Some (map to_daemon daemon.said.items) };
 
-    fn ask(&mut self, path: &str, greeting: Option<&Ask>, ask: &Ask) -> Result<Reply, PeerFault> {
+    fn ask(
+        &mut self,
+        address: Address<'_>,
+        greeting: Option<&Ask>,
+        ask: &Ask,
+    ) -> Result<Reply, PeerFault> {
         let reply = self.reply();
-        let (path, greeting) = (self.copy(path), self.copy_greeting(greeting));
+        let (socket, greeting) = (self.copy(address), self.copy_greeting(greeting));
         let (ask, kept) = (self.copy_ask(ask), self.copy_reply(&reply));
-        self.keep(ToDaemon::Asked(path, greeting, ask, kept));
+        self.keep(ToDaemon::Asked(socket, greeting, ask, kept));
         reply
     }
 
-    fn search(&mut self, path: &str, greeting: &Ask, search: Search) -> Result<Found, PeerFault> {
+    fn search(
+        &mut self,
+        address: Address<'_>,
+        greeting: &Ask,
+        search: Search,
+    ) -> Result<Found, PeerFault> {
         let found = self.found();
-        let (path, greeting) = (self.copy(path), self.copy_ask(greeting));
+        let (socket, greeting) = (self.copy(address), self.copy_ask(greeting));
         let kept = self.copy_found(&found);
-        self.keep(ToDaemon::Searched(path, greeting, search, kept));
+        self.keep(ToDaemon::Searched(socket, greeting, search, kept));
         found
     }
 
@@ -286,24 +300,26 @@ fn words_of<R: Abort>(rt: &R, alloc: Global, line: &[&str]) -> Vec<String> {
     words
 }
 
-/// What was said, in parts: of each talk the path of the socket, the body of HELLO, empty if there is none, and the body of the ask or the name of the
-/// search.
+/// What was said, in parts: of each talk the path of the socket and the seconds, the body of HELLO, empty if there is none, and the body of the ask or the
+/// name of the search.
 fn parts_of<R: Abort>(rt: &R, alloc: Global, said: &[ToDaemon]) -> Vec<Vec<u8>> {
     let mut parts = Vec::new(alloc);
     for talk in said {
-        let (path, greeting, last) = match talk {
-            ToDaemon::Asked(path, greeting, ask, _) => {
+        let (socket, greeting, last) = match talk {
+            ToDaemon::Asked(socket, greeting, ask, _) => {
                 let body = body_of(rt, alloc, Some(ask));
-                (path, greeting.as_ref(), body)
+                (socket, greeting.as_ref(), body)
             }
-            ToDaemon::Searched(path, greeting, search, _) => {
+            ToDaemon::Searched(socket, greeting, search, _) => {
                 let name = copy_of(rt, alloc, name_of(*search));
-                (path, Some(greeting), name)
+                (socket, Some(greeting), name)
             }
         };
-        let path = copy_of(rt, alloc, path.as_bytes());
+        let Socket { path, seconds } = socket;
+        let shown = format!(in alloc; "{path} {seconds}").expect(rt, "memory");
+        let shown = copy_of(rt, alloc, shown.as_bytes());
         let greeting = body_of(rt, alloc, greeting);
-        parts.push(path).expect(rt, "memory");
+        parts.push(shown).expect(rt, "memory");
         parts.push(greeting).expect(rt, "memory");
         parts.push(last).expect(rt, "memory");
     }
@@ -384,7 +400,7 @@ const CASES: &[Case] = &[
             "12",
         ],
         answer: Answer::Bytes(b"hello"),
-        said: &[b"/s", HELLO, READ],
+        said: &[b"/s 0", HELLO, READ],
         output: b"hello\n",
         ..SILENT
     },
@@ -392,7 +408,7 @@ const CASES: &[Case] = &[
         words: &["reqkeyctl", "--uid", "1000", "--gid", "100", "read", "12"],
         answer: Answer::Refused(Errno::Enokey),
         status: 1,
-        said: &[b"/run/d", HELLO, READ],
+        said: &[b"/run/d 0", HELLO, READ],
         errors: b"errno 126\n",
         ..SILENT
     },
@@ -400,21 +416,21 @@ const CASES: &[Case] = &[
         words: &["reqkeyctl", "--uid", "1000", "--gid", "100", "read", "12"],
         answer: Answer::Nothing,
         status: 1,
-        said: &[b"/run/d", HELLO, READ],
+        said: &[b"/run/d 0", HELLO, READ],
         errors: b"reqkeyctl: socket\n  nobody is there\n",
         ..SILENT
     },
     Case {
         words: &["reqkeyctl", "--uid", "1000", "--gid", "100", "list"],
         answer: Answer::Bytes(b"12 user;1000;valid;a\n"),
-        said: &[b"/run/d", HELLO, b"list"],
+        said: &[b"/run/d 0", HELLO, b"list"],
         output: b"12 user;1000;valid;a\n",
         ..SILENT
     },
     Case {
         words: &["reqkeyctl", "--uid", "1000", "--gid", "100", "sweep"],
         answer: Answer::Bytes(b"2\n"),
-        said: &[b"/run/d", HELLO, b"sweep"],
+        said: &[b"/run/d 0", HELLO, b"sweep"],
         output: b"2\n",
         ..SILENT
     },
@@ -422,7 +438,7 @@ const CASES: &[Case] = &[
         words: &["reqkeyctl", "--uid", "1000", "--gid", "100", "sweep"],
         answer: Answer::Refused(Errno::Edquot),
         status: 1,
-        said: &[b"/run/d", HELLO, b"sweep"],
+        said: &[b"/run/d 0", HELLO, b"sweep"],
         errors: b"errno 122\n",
         ..SILENT
     },
@@ -432,6 +448,38 @@ const CASES: &[Case] = &[
         status: 2,
         errors: b"error: <key> is a number up to 2147483647, or auth: the authority that is assumed\n",
         left: b"unread",
+        ..SILENT
+    },
+    Case {
+        words: &[
+            "reqkeyctl",
+            "--timeout",
+            "7",
+            "--uid",
+            "1000",
+            "--gid",
+            "100",
+            "read",
+            "12",
+        ],
+        is_handler: true,
+        answer: Answer::Bytes(b"hello"),
+        said: &[b"/run/d 7", HELLO, READ],
+        output: b"hello\n",
+        ..SILENT
+    },
+    Case {
+        words: &[
+            "reqkeyctl",
+            "--timeout=8",
+            "--uid=1000",
+            "--gid=100",
+            "list",
+        ],
+        is_handler: true,
+        answer: Answer::Bytes(b"12 user;1000;valid;a\n"),
+        said: &[b"/run/d 8", HELLO, b"list"],
+        output: b"12 user;1000;valid;a\n",
         ..SILENT
     },
     Case {

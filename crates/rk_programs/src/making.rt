@@ -5,12 +5,13 @@ ghost use Rattle.rk_variables.specs.Starts.{start_of};
 ghost use Rattle.rk_programs.specs.Started.{IsCalled, IsOf};
 
 use rk_macro::Command;
-use rk_variables::with;
+use rk_variables::{with, without};
 use std::alloc::{AllocError, Global};
 use std::process::{self, Stdio};
 
-/// The program of this command and its words, with pipes for its standard input and output. A plain handler gets the library by which keyutils'
-/// calls are the daemon's, if there is one, and that they go over these pipes; a piped one doesn't. The only refusal is out of memory.
+/// The program of this command and its words, with pipes for its standard input and output. A plain handler, which speaks with the daemon over these pipes,
+/// is told of no other one: `REQKEYD_SOCKET` is removed. It gets the library by which keyutils' calls are the daemon's, if there is one, and that they go over
+/// these pipes. A piped one is started in the daemon's environment. The only refusal is out of memory.
 pub fn made(
     alloc: Global,
     command: &Command,
@@ -19,12 +20,16 @@ pub fn made(
     ensures { IfOk result (λ made. IsOf command.now (option_map (λ s. s.now) keyutils.entry) (start_of made)) }
 {
     let called = called(alloc, command)?;
+    if command.piped {
+        return Ok(called);
+    }
+    let alone = without(called, "REQKEYD_SOCKET")?;
     match keyutils {
-        Some(library) if !command.piped => {
-            let told = with(called, "LD_PRELOAD", library)?;
+        Some(library) => {
+            let told = with(alone, "LD_PRELOAD", library)?;
             with(told, "REQKEYD_STREAMS", "0,1")
         }
-        _ => Ok(called),
+        None => Ok(alone),
     }
 }
 

@@ -7,6 +7,7 @@ use rk_client::PeerFault;
 use rk_message::{Ask, Reply};
 use std::alloc::AllocError;
 use std::process::{Command, ExitStatus};
+use thiserror::Error;
 
 /// Who runs a program, and what is there for it.
 #[derive(Debug, Drop)]
@@ -28,13 +29,16 @@ pub struct Here {
 }
 
 /// Why a program was not started.
-#[derive(Clone, Copy, Debug, PartialEq, Eq)]
+#[derive(Clone, Copy, Debug, PartialEq, Eq, Error)]
 pub enum StartFault {
     /// There is no such program.
+    #[error("there is no such program")]
     NotFound,
     /// It can't be started.
+    #[error("the program can't be started")]
     Unstartable,
     /// There was no memory.
+    #[error("out of memory")]
     NoMemory,
 }
 
