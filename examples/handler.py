@@ -2,7 +2,7 @@
 """A plain handler: it makes the key of its first word, whose payload is its second word and the callout. What it says it also writes to the file of
 its third word.
 
-Its line in the configuration: create user mail:* * /path/of/handler.py %k %d /tmp/told
+Its line in the configuration: create user mail:* * /path/of/handler.py %k %d /path/of/told
 """
 import pathlib
 import sys

@@ -142,6 +142,31 @@ DOUBTS = [
     ("create user a * |/etc\n", "reqkeyd: line 1: its program can't be started\n  /etc: Permission denied\n"),
 ]
 
+# Lines that hand a text of the request to their program, and which one a stranger may have it take for an option.
+EXPOSED = [
+    ("create user * * /bin/cat %d", "%d"), ("create * a * |/bin/cat x %t", "%t"), ("create user a * /bin/cat %c", "%c"),
+    ("create user *a * /bin/cat %d", "%d"), ("create user * * /bin/cat -x %k %d", "%d"), ("create * * * /bin/cat %c %t %d", "%c"),
+    ("create user a* * /bin/cat %d", ""), ("create user a * /bin/cat %d", ""), ("create a* a* x* /bin/cat %t %d %c", ""), ("create u* * c* /bin/cat %t %c", ""),
+    ("create * * * /bin/cat -- %d %t %c", ""), ("create * a* * /bin/cat %d -- %t", ""), ("create * a* * /bin/cat %t -- %d", "%t"),
+    ("create user * * /bin/cat --x %d", "%d"), ("create user * * /bin/cat %%d %%c", ""), ("create user * * /bin/cat %k %u %o %S", ""),
+    ("create user * * /bin/cat %{user:a}", ""), ("create user * * /bin/cat", ""), ("create user * * /bin/cat %%-- - %d", "%d"),
+]
+
+# Lines with a program behind another one, and which is missing.
+NONE = "/no/such"
+BEHIND = [
+    ("/usr/bin/timeout 10 /no/such %k", NONE), ("|/usr/bin/timeout 10 /no/such", NONE), ("/bin/timeout -k 5 -s KILL 10s /no/such", NONE),
+    ("/usr/bin/timeout --signal=KILL --foreground 1 /no/such", NONE), ("/usr/bin/timeout --kill-after %k -- 1 /no/such", NONE),
+    ("/usr/bin/env A=1 B= /no/such x", NONE), ("/bin/env -i -u A -C / A=/bin/cat /no/such", NONE), ("/usr/bin/env - /no/such", NONE),
+    ("/usr/bin/timeout 10 /usr/bin/env A=1 /no/such", NONE), ("/usr/bin/env /usr/bin/timeout 10 /no/such", NONE),
+    ("/usr/bin/timeout 10 /bin/cat /no/such", None), ("/usr/bin/timeout 10 cat", None), ("/usr/bin/timeout 10", None), ("/usr/bin/timeout %k /no/such", None),
+    ("/usr/bin/env -S /no/such", None), ("/usr/bin/env --split-string=/no/such", None), ("/usr/bin/env %o", None), ("/bin/cat 10 /no/such", None),
+    ("/usr/bin/timeout -s /no/such 10 /bin/cat", None), ("/usr/bin/env -C /no/such /bin/cat", None), ("/usr/bin/timeout 10 %d", None),
+]
+
+# The permissions of a file, and whether others than its owner may write it.
+MODES = [(0o644, False), (0o600, False), (0o755, False), (0o664, True), (0o646, True), (0o666, True), (0o622, True)]
+
 # The greatest number of each option.
 LIMITS = {"uid": 4294967295, "gid": 4294967295, "key": 2147483647, "thread": 2147483647, "process": 2147483647, "session": 2147483647}
 NO_NUMBERS = ["", " 1", "1 ", "+1", "-1", "0x1", "1.", "one", "\u0661", "99999999999999999999"]
@@ -178,6 +203,23 @@ def checks(program, room):
     for text, wanted in DOUBTS:
         count.same(f"{program.name} doubts {text}", told(program, room, text.encode(), "check", "--conf", "CONF"),
                    (0, counted_lines(len(text.split("\n")) - 1), wanted.encode()))
+
+
+def exposes(program, room):
+    for line, macro in EXPOSED:
+        told_of = f"reqkeyd: line 2: {macro} may begin with a dash, as an option does; an argument -- before it ends the options\n" if macro else ""
+        got = told(program, room, f"# two\n{line}\n".encode(), "check", "--conf", "CONF")
+        count.same(f"{program.name} check {line}", got, (0, b"ok, 1 line\n", told_of.encode()))
+    for command, missing in BEHIND:
+        told_of = f"reqkeyd: line 1: its program can't be started\n  {missing}: No such file or directory\n" if missing else ""
+        got = told(program, room, f"create user a a {command}\n".encode(), "check", "--conf", "CONF")
+        count.same(f"{program.name} check {command}", got, (0, b"ok, 1 line\n", told_of.encode()))
+    for mode, is_open in MODES:
+        (room / "conf").write_text("create user a * /bin/cat\n")
+        (room / "conf").chmod(mode)
+        told_of = b"reqkeyd: others than its owner may write the configuration, and have any program started\n" if is_open else b""
+        count.same(f"{program.name} check of mode {mode:o}", ran(program, "check", "--conf", room / "conf"), (0, b"ok, 1 line\n", told_of))
+    (room / "conf").chmod(0o644)
 
 
 def picks(program, room):
@@ -344,7 +386,7 @@ def in_a_shell(program, room):
 for program in there(count):
     with tempfile.TemporaryDirectory() as name:
         room = pathlib.Path(name)
-        for tried in [checks, picks, calls, numbers, in_a_shell]:
+        for tried in [checks, exposes, picks, calls, numbers, in_a_shell]:
             tried(program, room)
         for seed in range(int(os.environ.get("SEEDS", CASES))):
             beside_replay(program, room, seed)

@@ -1,10 +1,12 @@
 //! Warnings of `check`: what is allowed in a configuration, and hardly meant.
 ghost use Rattle.std.specs.Prelude.{◌≡◌};
-ghost use Rattle.reqkeyd.specs.Doubted.{comment_of, IsHidden, IsOperation};
+ghost use Rattle.reqkeyd.specs.Doubted.{IsHidden, IsOperation, comment_of, exposed_of, writable_of};
 
 use crate::reason::tell_error;
 use rk_conf::{Conf, Line};
-use rk_preview::{Doubt, has_comment, hidden_by, is_of_no_request};
+use rk_preview::{
+    Doubt, exposed, has_comment, hidden_by, is_of_no_request, is_others_to_write, program_behind,
+};
 use std::fs::Files;
 use std::io::Write;
 use std::os::unix::fs::PermissionsExt;
@@ -42,8 +44,32 @@ fn comment_doubt(line: &Line) -> Option<Doubt>
     }
 }
 
-/// Warns of what a configuration of this text has, if it has no fault.
-pub fn warn_of<R: Files + AllocGlobal, E: Write>(rt: &R, text: &[u8], errors: &mut E) {
+/// That a word of a request may be taken for an option of the line's program.
+fn exposed_doubt(line: &Line) -> Option<Doubt>
+    ensures { result ≡ exposed_of line.now }
+{
+    match exposed(line) {
+        Some(foreign) => Some(Doubt::Exposed(line.number, foreign)),
+        None => None,
+    }
+}
+
+/// That others than its owner may write a file with these permissions.
+fn writable_doubt(mode: u32) -> Option<Doubt>
+    ensures { result ≡ writable_of mode }
+{
+    if is_others_to_write(mode) {
+        Some(Doubt::Writable)
+    } else {
+        None
+    }
+}
+
+/// Warns of what a configuration at this path and of this text has, if it has no fault.
+pub fn warn_of<R: Files + AllocGlobal, E: Write>(rt: &R, path: &str, text: &[u8], errors: &mut E) {
+    if let Ok(found) = fs::metadata(rt, path) {
+        warn(writable_doubt(found.permissions().mode()), errors);
+    }
     let Ok(conf) = Conf::read(rt.alloc(), text) else {
         return;
     };
@@ -56,6 +82,7 @@ pub fn warn_of<R: Files + AllocGlobal, E: Write>(rt: &R, text: &[u8], errors: &m
         warn(operation_doubt(line), errors);
         warn(hidden_doubt(before, line), errors);
         warn(comment_doubt(line), errors);
+        warn(exposed_doubt(line), errors);
         warn_of_program(rt, line, errors);
     }
 }
@@ -67,12 +94,21 @@ fn warn<E: Write>(doubt: Option<Doubt>, errors: &mut E) {
     }
 }
 
-/// Warns of a program that isn't there, or that nobody may execute.
+/// Warns of a program that can't be started: that of the line, and the one behind timeout(1) or env(1).
 fn warn_of_program<R: Files + AllocGlobal, E: Write>(rt: &R, line: &Line, errors: &mut E) {
-    let Ok(path) = str::from_utf8(line.prog.as_bytes()) else {
-        return;
-    };
-    let number = line.number;
+    warn_of_path(rt, line.number, line.prog.as_str(), errors);
+    if let Ok(Some(path)) = program_behind(rt.alloc(), line) {
+        warn_of_path(rt, line.number, path, errors);
+    }
+}
+
+/// Warns of a program that isn't there, or that nobody may execute.
+fn warn_of_path<R: Files + AllocGlobal, E: Write>(
+    rt: &R,
+    number: usize,
+    path: &str,
+    errors: &mut E,
+) {
     let error = match fs::metadata(rt, path) {
         Ok(found) if found.is_file() && found.permissions().mode() & 0o111 != 0 => return,
         Ok(_) => io::Error::from_raw_os_error(libc::EACCES),

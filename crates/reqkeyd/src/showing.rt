@@ -37,7 +37,7 @@ pub fn show<R: Files + AllocGlobal, W: Write, E: Write>(
         Ok(told) => {
             if tell(&told, writer) == 0 {
                 if let Preview::Check(_) = preview {
-                    warn_of(rt, &text, errors);
+                    warn_of(rt, preview.conf(), &text, errors);
                 }
                 return 0;
             }

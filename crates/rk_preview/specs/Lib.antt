@@ -4,7 +4,9 @@ pub mod Numbers
 pub mod Asked
 pub mod Text
 pub mod Told
+pub mod Behind
 pub mod Doubts
+pub mod Exposures
 pub mod Views
 pub mod Outlines
 pub mod Laws

@@ -1,9 +1,10 @@
 //! What is allowed in a configuration, and hardly meant.
-ghost use Rattle.std.specs.Prelude.{◌≡◌, ◌↔◌, IsTrue, IfSome, IsNone, codes};
+ghost use Rattle.std.specs.Prelude.{◌≡◌, ◌==◌, ◌↔◌, IsTrue, IfSome, IsNone, bit_and, codes, not};
 ghost use Rattle.std.specs.List.{All, list_any};
 ghost use Rattle.rk_glob.specs.Wildcard.{Fits};
 ghost use Rattle.rk_preview.specs.Doubts.{IsHiddenBy, begins_with_hash};
 
+use crate::exposure::Foreign;
 use rk_conf::{Argument, Line};
 use rk_glob::matches;
 use thiserror::Error;
@@ -23,6 +24,12 @@ pub enum Doubt {
     /// An argument of the line looks as a comment.
     #[error("line {0}: a # within a line begins no comment")]
     Comment(usize),
+    /// A text of a request is an argument of the line, and may look as an option of the program.
+    #[error("line {0}: {1} may begin with a dash, as an option does; an argument -- before it ends the options")]
+    Exposed(usize, Foreign),
+    /// Others than its owner may write the file.
+    #[error("others than its owner may write the configuration, and have any program started")]
+    Writable,
 }
 
 /// Whether no request has the operation of the line.
@@ -49,6 +56,13 @@ fn hides(earlier: &Line, line: &Line) -> bool
         && matches(earlier.typ.as_bytes(), line.typ.as_bytes())
         && matches(earlier.desc.as_bytes(), line.desc.as_bytes())
         && matches(earlier.callout.as_bytes(), line.callout.as_bytes())
+}
+
+/// Whether others than the owner may write a file with these permissions (chmod(2)).
+pub fn is_others_to_write(mode: u32) -> bool
+    ensures { result ≡ not (bit_and mode 18 == 0) }
+{
+    mode & 0o022 != 0
 }
 
 /// Whether an argument of the line begins with `#`.

@@ -16,10 +16,13 @@
 //! # How it is built
 //!
 //! `numbers`, `names` and `preview` read the words, over the options of `rk_options`. `telling` picks and expands, `text` writes, and `reading` has the law
-//! that it can be read back. `fault` says in words what is wrong, and `doubts` finds what is allowed and hardly meant.
+//! that it can be read back. `behind` finds the program behind timeout(1), `fault` says in words what is wrong, `doubts` finds what is allowed and hardly meant, and `exposure` what a
+//! stranger may have a program take for an option.
 #![tactic(auto)]
 
+mod behind;
 mod doubts;
+mod exposure;
 mod fault;
 mod names;
 mod numbers;
@@ -28,7 +31,9 @@ mod reading;
 mod telling;
 mod text;
 
-pub use doubts::{Doubt, has_comment, hidden_by, is_of_no_request};
+pub use behind::program_behind;
+pub use doubts::{Doubt, has_comment, hidden_by, is_of_no_request, is_others_to_write};
+pub use exposure::{Foreign, exposed};
 pub use fault::{Fault, rule};
 pub use preview::Preview;
 pub use reading::commands_have_one_reading;
