@@ -107,7 +107,7 @@ def of_warnings():
     fails = [re.sub(r"\{\w+\}", "N", text) for text in re.findall(r'"([^"]+)"', ways) if not others.match(text)]
     ends_in = re.findall(r'"(; [^"]+)"', ways)
     count.same("what a warning of a handler may end in", [it for it in ends_in if f"\\fB{it}\\fR" in (top / "man" / "reqkeyd.8").read_text()], ends_in)
-    count.same("warnings of sessions", [tag for tag in tags if tag.startswith("session N: ") and tag not in ["session N: no memory", "session N: idle"]], ends)
+    count.same("warnings of sessions", [tag for tag in tags if tag.startswith("session N: ") and tag not in ["session N: no memory", "session N: idle", "session N: its replies are not read"]], ends)
     of_handlers = [tag for tag in tags if tag.startswith("handler of key N: ") and not tag.endswith("this line")]
     count.same("warnings of handlers", of_handlers, [f"handler of key N: {it}" for it in fails])
     text = " ".join(spoken(line) for line in sections("reqkeyd.8")["DIAGNOSTICS"]).partition("handler of key N: ")[2].partition("accept:")[0]

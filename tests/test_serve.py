@@ -10,7 +10,7 @@ import sys
 sys.path.insert(0, str(pathlib.Path(__file__).resolve().parent / "serve"))
 from programs import check_all
 
-SUBJECTS = ["start", "keys", "ends", "frames", "together", "hostile", "alike", "memory", "devices", "log"]
+SUBJECTS = ["start", "keys", "ends", "frames", "together", "hostile", "alike", "memory", "devices", "log", "patience"]
 
 
 check_all([case for name in sys.argv[1:] or SUBJECTS for case in importlib.import_module(name).cases()])

@@ -2,6 +2,7 @@ pub mod Acceptings
 pub mod Bindings
 pub mod Crossing
 pub mod Fillings
+pub mod Hearings
 pub mod Keepings
 pub mod Octal
 pub mod Stories

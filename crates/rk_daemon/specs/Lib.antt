@@ -9,9 +9,12 @@ pub mod Faults
 pub mod Figures
 pub mod Folder
 pub mod Handlers
+pub mod Hearing
 pub mod Held
 pub mod Keeping
+pub mod Line
 pub mod Log
+pub mod Lull
 pub mod Place
 pub mod Purpose
 pub mod Settings

@@ -3,28 +3,50 @@ ghost use Rattle.std.specs.Prelude.{◌≡◌, ◌≤◌, ◌+◌, ◌*◌, ◌=
 ghost use Rattle.std.specs.Prelude.{if◌then◌else◌};
 ghost use Rattle.std.specs.Duration.{as_nanos};
 ghost use Rattle.std.specs.IoError.{error_kind};
+ghost use Rattle.rk_daemon.specs.Lull.{fresh};
 ghost use Rattle.rk_devices.specs.Counts.{Rose, raised};
 ghost use Rattle.rk_session.specs.Wires.{Sends, Writes};
 
+use crate::hearing::{hear, send};
 use crate::held::{Held, taken_by};
+use crate::lull::Lull;
+use crate::system_line::SystemLine;
 use rk_devices::DeviceFault;
 use rk_hall::ReceiptView;
 use rk_session::Wire;
 use std::alloc::{AllocError, Global};
 use std::io;
-use std::io::{ErrorKind, Read, Write};
+use std::io::ErrorKind;
 use std::os::unix::net::UnixStream;
-use std::time::Duration;
+use std::sync::Wait;
+use std::time::{Clock, Duration};
 
 /// The most bytes of replies that are kept.
 const ROOM: usize = 4_096;
 
+/// Whether a client has kept its worker waiting for too long.
+#[derive(Clone, Copy, Debug, PartialEq, Eq)]
+pub enum Delay {
+    /// It has not.
+    None,
+    /// Nothing came, or not all of a frame.
+    Silent,
+    /// It didn't read its replies.
+    Deaf,
+}
+
 /// A client's socket. It keeps replies, so that many are sent together. It counts its failures and reads, and what its asks put into the records, and knows
-/// whether its client was silent for too long.
+/// whether its client has kept it waiting for too long.
 #[derive(Drop)]
-pub struct Socket<'a> {
+pub struct Socket<'a, R> {
+    /// What may wait.
+    rt: &'a R,
     /// The connection to the client.
-    stream: UnixStream,
+    line: SystemLine<'a, R>,
+    /// For how many seconds a client is waited for; 0 is any time.
+    patience: u32,
+    /// For how long it is waited for.
+    lull: Lull,
     /// Counts what the records hold.
     held: &'a Held,
     /// The replies that are kept.
@@ -35,8 +57,8 @@ pub struct Socket<'a> {
     failed: u64,
     /// How many reads there were.
     reads: u64,
-    /// Whether a read has failed since nothing came for too long.
-    is_idle: bool,
+    /// Whether the client was waited for too long.
+    delay: Delay,
 }
 
 /// One more; the greatest count stays.
@@ -47,7 +69,7 @@ fn one_more(count: u64) -> u64
     if count < u64::MAX { count + 1 } else { count }
 }
 
-/// For how long a read waits that may wait so many seconds, of which 0 is no limit.
+/// For how long a call waits that may wait so many seconds, of which 0 is no limit.
 fn patience(seconds: u32) -> Option<Duration>
     ensures { option_map as_nanos result ≡ (if seconds == 0 then None else Some (seconds * 1_000_000_000)) }
 {
@@ -57,26 +79,29 @@ fn patience(seconds: u32) -> Option<Duration>
     Some(Duration::from_secs(u64::from(seconds)))
 }
 
-/// Whether a read has failed since nothing came for as long as it waits (SO_RCVTIMEO of socket(7)).
-fn is_silence(error: &io::Error) -> bool
+/// Whether a call has failed since it has waited for as long as it may (SO_RCVTIMEO and SO_SNDTIMEO of socket(7)).
+fn is_late(error: &io::Error) -> bool
     ensures { IsTrue result ↔ (error_kind error.now ≡ ErrorKind.WouldBlock) }
 {
     matches!(error.kind(), ErrorKind::WouldBlock)
 }
 
-impl<'a> Socket<'a> {
+impl<'a, R: Wait + Clock> Socket<'a, R> {
     /// The socket of a connection that was accepted, which counts what the records hold here. It takes no memory.
-    pub fn new(alloc: Global, stream: UnixStream, held: &'a Held) -> Socket<'a>
-        ensures { ⟦<Socket<'a> as Wire>⟧.shown result ≡ record { count = 0; reads = 0; kept = false; cut = false; story = None } }
+    pub fn new(rt: &'a R, alloc: Global, stream: UnixStream, held: &'a Held) -> Socket<'a, R>
+        ensures { ⟦<Socket<'a, R> as Wire>⟧.shown result ≡ record { count = 0; reads = 0; kept = false; cut = false; story = None } }
     {
         Socket {
-            stream,
+            rt,
+            line: SystemLine::new(rt, stream),
+            patience: 0,
+            lull: Lull::new(0),
             held,
             kept: Vec::new(alloc),
             cut: false,
             failed: 0,
             reads: 0,
-            is_idle: false,
+            delay: Delay::None,
         }
     }
 
@@ -85,17 +110,24 @@ impl<'a> Socket<'a> {
         self.kept.reserve(ROOM)
     }
 
-    /// Has reads fail after so many seconds in which nothing comes; 0 is no limit.
-    pub fn set_patience(&self, seconds: u32) -> io::Result<()> {
+    /// Has reads and sendings fail after so many seconds in which nothing comes, a frame is not whole, or replies are not read; 0 is no limit.
+    pub fn set_patience(&mut self, seconds: u32) -> io::Result<()>
+        ensures shown { ⟦<Socket<'a, R> as Wire>⟧.shown self.new ≡ ⟦<Socket<'a, R> as Wire>⟧.shown self.old }
+        ensures limits { (self.new.patience ≡ seconds) × (self.new.lull ≡ fresh seconds) }
+    {
+        self.patience = seconds;
+        self.lull = Lull::new(seconds);
         match patience(seconds) {
-            Some(time) => self.stream.set_read_timeout(Some(time)),
+            Some(time) => self.line.bound(time),
             None => Ok(()),
         }
     }
 
-    /// Whether a read has failed since nothing came for so long.
-    pub fn is_idle(&self) -> bool {
-        self.is_idle
+    /// Whether a call has failed since it was waited for the client for too long, and for what.
+    pub fn delay(&self) -> Delay
+        ensures { result ≡ self.now.delay }
+    {
+        self.delay
     }
 
     /// Counts a failure.
@@ -124,11 +156,16 @@ impl<'a> Socket<'a> {
     fn outcome(&mut self, sent: io::Result<()>) -> Result<(), DeviceFault>
         requires whole { self.old.cut ≡ false }
         requires empty { vec_len self.old.kept ≡ 0 }
-        ensures { Sends result (⟦<Socket<'a> as Wire>⟧.shown self.old) (⟦<Socket<'a> as Wire>⟧.shown self.new) }
+        ensures { Sends result (⟦<Socket<'a, R> as Wire>⟧.shown self.old) (⟦<Socket<'a, R> as Wire>⟧.shown self.new) }
     {
         match sent {
             Ok(()) => Ok(()),
-            Err(_) => Err(self.sever()),
+            Err(error) => {
+                if is_late(&error) {
+                    self.delay = Delay::Deaf;
+                }
+                Err(self.sever())
+            }
         }
     }
 
@@ -146,14 +183,14 @@ impl<'a> Socket<'a> {
     /// Sends what is kept, so that there is room, and keeps these bytes; they are sent, too, where they are longer than all of it.
     fn write_anew(&mut self, bytes: &[u8]) -> Result<(), DeviceFault>
         requires { self.old.cut ≡ false }
-        ensures { Writes result bytes.now (⟦<Socket<'a> as Wire>⟧.shown self.old) (⟦<Socket<'a> as Wire>⟧.shown self.new) }
+        ensures { Writes result bytes.now (⟦<Socket<'a, R> as Wire>⟧.shown self.old) (⟦<Socket<'a, R> as Wire>⟧.shown self.new) }
     {
         match self.send() {
             Ok(()) => {}
             Err(fault) => return Err(fault),
         }
         if bytes.len() > self.kept.capacity() {
-            let sent = self.stream.write_all(bytes);
+            let sent = send(self.rt, &mut self.line, self.patience, bytes);
             return self.outcome(sent);
         }
         self.keep(bytes);
@@ -161,15 +198,17 @@ impl<'a> Socket<'a> {
     }
 }
 
-impl<'a> Wire for Socket<'a> {
+impl<'a, R: Wait + Clock> Wire for Socket<'a, R> {
     ghost shown = { λ s. record { count = s.failed; reads = s.reads; kept = not (vec_len s.kept == 0); cut = s.cut; story = None } };
 
     fn read(&mut self, buf: &mut [u8]) -> Result<usize, DeviceFault> {
         self.reads = one_more(self.reads);
-        match self.stream.read(buf) {
+        match hear(self.rt, &mut self.line, &mut self.lull, buf) {
             Ok(count) => Ok(count),
             Err(error) => {
-                self.is_idle = is_silence(&error);
+                if is_late(&error) {
+                    self.delay = Delay::Silent;
+                }
                 Err(self.fault())
             }
         }
@@ -177,6 +216,7 @@ impl<'a> Wire for Socket<'a> {
 
     #[inline(always)]
     fn write(&mut self, bytes: &[u8]) -> Result<(), DeviceFault> {
+        self.lull.end();
         if self.cut {
             return Err(self.sever());
         }
@@ -191,7 +231,7 @@ impl<'a> Wire for Socket<'a> {
         if self.cut {
             return Err(self.sever());
         }
-        let sent = self.stream.write_all(&self.kept);
+        let sent = send(self.rt, &mut self.line, self.patience, &self.kept);
         self.kept.clear();
         self.outcome(sent)
     }

@@ -13,7 +13,7 @@ use crate::record::Keeper;
 use crate::reporter::{LogState, Reporter};
 use crate::settings::{LogSettings, Settings};
 use crate::shelf::Outlet;
-use crate::socket::Socket;
+use crate::socket::{Delay, Socket};
 use crate::watching::watch;
 use crossbeam_channel::Receiver;
 use log::{info, warn};
@@ -110,7 +110,7 @@ fn serve_client<P: Platform, R: Wait + Eprint + Clock>(
     log: &Reporter<'_, R>,
     crew: &mut Crew<P>,
     number: u32,
-    socket: &mut Socket<'_>,
+    socket: &mut Socket<'_, R>,
 )
     requires bound { (P.Launcher.shown crew.old.launcher).count ≤ most }
     ensures bound { (P.Launcher.shown crew.new.launcher).count ≤ most }
@@ -120,10 +120,12 @@ fn serve_client<P: Platform, R: Wait + Eprint + Clock>(
         return;
     };
     let served = serve(stage, crew, number, frames, socket);
-    if socket.is_idle() {
-        info!(log; "session {number}: idle");
-    } else if served != Served::Ended {
-        warn!(log; "session {number}: {served:?}");
+    match socket.delay() {
+        Delay::Silent => info!(log; "session {number}: idle"),
+        Delay::Deaf => warn!(log; "session {number}: its replies are not read"),
+        Delay::None => if served != Served::Ended {
+            warn!(log; "session {number}: {served:?}");
+        },
     }
 }
 
@@ -160,7 +162,7 @@ fn serve_clients<'a, N: Names, R: Wait + Processes + Clock + Eprint + Keeper>(
     let log = Reporter::new(rt, &shared.log);
     for client in clients.iter(rt) {
         let Client { number, stream } = client;
-        let mut socket = Socket::new(alloc, stream, &shared.held);
+        let mut socket = Socket::new(rt, alloc, stream, &shared.held);
         shared.connections.begin();
         let _ = socket.set_patience(shared.times.idle);
         serve_client(&stage, &log, &mut crew, number, &mut socket);

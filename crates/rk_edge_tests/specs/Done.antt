@@ -3,6 +3,7 @@ use Rattle.std.specs.Prelude.{ℕ, Bool, true, false, [], List, Option, None, So
 use Rattle.rk_daemon.specs.Binding as binding
 use Rattle.rk_daemon.specs.Door as door
 use Rattle.rk_daemon.specs.Folder as folder
+use Rattle.rk_daemon.specs.Line as line
 use Rattle.rk_daemon.specs.Place as place
 use Rattle.rk_daemon.specs.Streams as streams
 use Rattle.rk_run.specs.Seen.{seen_in}
@@ -17,6 +18,8 @@ use Rattle.rk_edge_tests.specs.declared.done.InFolder.{InFolder}
 use Rattle.rk_edge_tests.specs.declared.done.InFolder.TheVariants as within
 use Rattle.rk_edge_tests.specs.declared.done.InPlace.{InPlace}
 use Rattle.rk_edge_tests.specs.declared.done.InPlace.TheVariants as places
+use Rattle.rk_edge_tests.specs.declared.done.OnLine.{OnLine}
+use Rattle.rk_edge_tests.specs.declared.done.OnLine.TheVariants as on
 use Rattle.rk_edge_tests.specs.declared.done.OfRun.{OfRun}
 use Rattle.rk_edge_tests.specs.declared.done.OfRun.TheVariants as running
 use Rattle.rk_edge_tests.specs.declared.done.OfVolume.{OfVolume}
@@ -50,6 +53,12 @@ at_door (opening.Watched is_over) = door.Watched is_over
 at_door (opening.Accepted is_done) = door.Accepted is_done
 at_door opening.Paused = door.Paused
 at_door (opening.HandedOut number is_taken) = door.HandedOut number is_taken
+
+-- on the line to a client
+abbrev pub on_line : OnLine → line.Act
+on_line (on.Read came) = line.HasRead came
+on_line (on.Written bytes came) = line.HasWritten bytes.items came
+on_line (on.Looked second) = line.Looked second
 
 -- in the places of the standard streams
 abbrev pub in_place : InPlace → streams.Act

@@ -52,6 +52,17 @@ pub enum AtDoor {
     HandedOut(u32, bool),
 }
 
+/// What is done on the line to a client. What a call came to: so many bytes, or a failure.
+#[derive(Debug, Drop, PartialEq, Eq)]
+pub enum OnLine {
+    /// It is read.
+    Read(Result<usize, ErrorKind>),
+    /// Bytes are offered.
+    Written(Vec<u8>, Result<usize, ErrorKind>),
+    /// The clock is looked at.
+    Looked(u64),
+}
+
 /// What is done in the places of the standard streams.
 #[derive(Clone, Copy, Debug, PartialEq, Eq)]
 pub enum InPlace {
