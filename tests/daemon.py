@@ -58,7 +58,7 @@ def told(body):
 
 
 def text_of(line):
-    """A line of the log without its time: `warn: session 17: ReadFault`."""
+    """A line of the log without its time: `warn: session 17: it could not be read`."""
     return re.sub(r"^[0-9]{4}-[0-9]{2}-[0-9]{2}T[0-9]{2}:[0-9]{2}:[0-9]{2}Z (?=error|warn|info|debug)", "", line)
 
 

@@ -61,7 +61,7 @@ ALLOWED = {
 # come before a worker knew that another one had gone
 HOW = (r"exit status [1-9][0-9]*|killed by a signal|start failed: .*|no memory for its start|its output could not be read|"
        r"the system does not say how it ended")
-FAILED = rf"session [1-9][0-9]*: (ReadFault|WriteFault)|handler of key [1-9][0-9]* [^:]*\(.*\): ({HOW})"
+FAILED = rf"session [1-9][0-9]*: (it could not be read|a reply could not be written|its replies are not read)|handler of key [1-9][0-9]* [^:]*\(.*\): ({HOW})"
 SLOW = r"handler of key [0-9]+ \([^)]*\) has run for [0-9]+ seconds"
 WARNED = rf"\S+Z warn: ({FAILED}|all {SESSIONS} workers are busy, connections wait|{SLOW}|[a-z ]+: and [0-9]+ more)"
 TOLD = re.compile(rf"reqkeyd: ready|volume [0-3] [1-9][0-9]* [1-9][0-9]*|{WARNED}")

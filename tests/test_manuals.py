@@ -100,7 +100,9 @@ def of_warnings():
     """reqkeyd.8: each end of a session but the plain one, each way in which a handler may fail, with the code or reason of those that have one, and each text
     with which the daemon warns."""
     tags = tagged(sections("reqkeyd.8")["DIAGNOSTICS"])
-    ends = [f"session N: {it}" for it in variants("rk_session/src/serving.rt", "Served") if it != "Ended"]
+    parting = (top / "crates" / "rk_daemon" / "src" / "parting.rt").read_text()
+    ends = [f"session N: {it}" for it in re.findall(r'"([^"]+)"', parting) if it != "ended"]
+    count.same("ends of sessions", len(ends), len(variants("rk_session/src/serving.rt", "Served")) - 1)
     ending = (top / "crates" / "rk_daemon" / "src" / "ending.rt").read_text()
     ways = ending.partition("fn put_how(")[2].partition("fn errno_text(")[0]
     others = re.compile(r"; |X[234]|start failed: |it could|.*more than")

@@ -373,8 +373,8 @@ def warned(program):
         with daemon.client() as whole:
             whole.ask(want(callout=None))
         status, lines = daemon.end()
-        want_lines = ["session 1: Malformed", "session 2: ReadFault", "session 3: WriteFault"]
-        fit = len(lines) == 3 and all(" warn: " in line and line.endswith(told) for line, told in zip(sorted(lines, key=lambda it: it[-25:]), want_lines))
+        want_lines = ["session 1: what it sent is no frame", "session 2: it could not be read", "session 3: a reply could not be written"]
+        fit = sorted(line.partition(" warn: ")[2] for line in lines) == want_lines
         return differs((status, done, fit), (0, (0, 0), True)) and f"{status} {done} {lines}"
 
 

@@ -25,10 +25,10 @@ def bounded(program, count):
         malformed(daemon, count)
         status, lines = daemon.end()
         lines = list(map(text_of, lines))
-        told = [line for line in lines if line.endswith(": Malformed")]
+        told = [line for line in lines if line.endswith(": what it sent is no frame")]
         more = sum(int(line.split(" ")[3]) for line in lines if line.startswith("warn: sessions: and ") and line.endswith(" more"))
         fit = len(told) == count if count <= 10 else 10 <= len(told) < count
-        return differs((status, fit, len(told) + more, told[:1]), (0, True, count, ["warn: session 1: Malformed"])) and f"{status} {lines}"
+        return differs((status, fit, len(told) + more, told[:1]), (0, True, count, ["warn: session 1: what it sent is no frame"])) and f"{status} {lines}"
 
 
 def levels(program, level, wanted):
@@ -49,7 +49,7 @@ def journal(program, is_journal):
         with daemon:
             malformed(daemon, 1)
             status, lines = daemon.end()
-    wanted = "<4>session 1: Malformed" if is_journal else "warn: session 1: Malformed"
+    wanted = "<4>session 1: what it sent is no frame" if is_journal else "warn: session 1: what it sent is no frame"
     return differs((status, [line if is_journal else text_of(line) for line in lines]), (0, [wanted])) or differs(lines[0] == wanted, is_journal)
 
 
@@ -99,6 +99,28 @@ def figures(program):
         other.socket.close()
         until(lambda: is_told(daemon, "connections 1, workers busy 1, handlers 0, " + in_halls([1], [0], [0])), "another line")
         return differs(reply, "E126") or daemon.lives()
+
+
+def figures_of_several(program):
+    """Of each thing several, and as many as of no other: connections beside busy workers, handlers of which the first is the oldest, keys of each hall."""
+    with Daemon(program, HELD, "--status", "1", "--log", "error", "--sessions", "3") as daemon:
+        clients = [daemon.client(uid) for uid in [1002, 1003]]
+        others = [daemon.client(None) for _ in range(3)]
+        for client, count in zip(clients, [2, 3]):
+            client.ask(*[ask.add(b"user", b"k:%d" % at, b"v", -4) for at in range(count)])
+        handlers = []
+        for client in clients:
+            client.send(ask.request(b"user", b"h:1", b"x", -4))
+            handlers.append(daemon.handler())
+        in_all = in_halls([0, 0, 3, 4], [0, 0, 1, 1], [0, 0, 0, 0])
+        text = rf"info: status: connections 5, workers busy 3, handlers 2, the oldest of key {handlers[0].key} for [0-9]+ s, {in_all}"
+        until(lambda: any(re.fullmatch(text, text_of(line)) for line in daemon.lines), "figures of several")
+        for handler in handlers:
+            handler.ends()
+        replies = [client.reply() for client in clients]
+        for other in others:
+            other.socket.close()
+        return differs(replies, ["E126", "E126"]) or daemon.lives()
 
 
 def in_halls(*counts):
@@ -171,8 +193,8 @@ def cases():
     for count in [3, 10, 40]:
         yield f"{count} lines of a kind", bounded, count
     idle_line = "info: session 2: idle"
-    for level, wanted in [("error", []), ("warn", ["warn: session 1: Malformed"]), ("info", ["warn: session 1: Malformed", idle_line]),
-                          ("debug", ["warn: session 1: Malformed", idle_line])]:
+    for level, wanted in [("error", []), ("warn", ["warn: session 1: what it sent is no frame"]), ("info", ["warn: session 1: what it sent is no frame", idle_line]),
+                          ("debug", ["warn: session 1: what it sent is no frame", idle_line])]:
         yield f"the level {level}", levels, level, wanted
     for is_journal in [True, False]:
         yield f"standard error is {'' if is_journal else 'not '}the journal", journal, is_journal
@@ -180,6 +202,7 @@ def cases():
         yield f"a log that may not grow, and its signal is {'' if is_ignored else 'not '}ignored", full, is_ignored
     yield "a slow handler", slow
     yield "figures", figures
+    yield "figures of several", figures_of_several
     yield "EDQUOTs among the figures", edquots
     yield "silent clients", idle
     for what in ["nothing", "bytes", "a client"]:

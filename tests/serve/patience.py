@@ -135,10 +135,12 @@ def reads_slowly(program):
 
 
 def told(daemon, wanted):
-    """Waits for these lines of the log, in any order."""
-    until(lambda: len(daemon.lines) > len(wanted), "lines of the log")
-    lines = [text_of(line) for line in daemon.lines if line != "reqkeyd: ready" and "workers are busy" not in line]
-    return differs(sorted(lines), wanted)
+    """Waits for as many lines of the log that tell of sessions, and compares them, in any order."""
+    def lines():
+        return [line for line in map(text_of, daemon.lines) if "session" in line]
+
+    until(lambda: len(lines()) >= len(wanted), "lines of the log")
+    return differs(sorted(lines()), wanted)
 
 
 def cases():

@@ -17,8 +17,8 @@ Told = Option (List Act)
 
 -- ---- the clock
 
-pub not_watched : (l : Lull) (s : Told) → is_timed l ≡ false → Does (Watches l false l) s s
-not_watched l s is = ([], still s, hearing.unwatched l is)
+pub not_watched : (l : Lull) (late : Bool) (s : Told) → late ≡ false → is_timed l ≡ false → Does (Watches l late l) s s
+not_watched l late s not is = subst (λ x. Does (Watches l x l) s s) (sym not) ([], still s, hearing.unwatched l is)
 
 pub was_watched : (l m : Lull) (now : ℕ) (late : Bool) (s t : Told) → is_timed l ≡ true → t ≡ and_then s (Looked now ∷ []) → late ≡ is_over now l
     → m ≡ looked now l → Does (Watches l late m) s t

@@ -4,6 +4,7 @@ pub mod Crossing
 pub mod Fillings
 pub mod Hearings
 pub mod Keepings
+pub mod Lookings
 pub mod Octal
 pub mod Stories
 pub mod Takings

@@ -11,11 +11,14 @@ pub mod Folder
 pub mod Handlers
 pub mod Hearing
 pub mod Held
+pub mod InHalls
 pub mod Keeping
 pub mod Line
 pub mod Log
 pub mod Lull
+pub mod Parting
 pub mod Place
+pub mod Post
 pub mod Purpose
 pub mod Settings
 pub mod Story

@@ -12,7 +12,7 @@ use Rattle.rk_daemon.specs.declared.kind.Kind.TheVariants as kind
 abbrev pub kind_of : List ℕ → Kind
 kind_of path = if bytes_eq path (codes "rk_daemon::workers") then kind.Session
     else (if bytes_eq path (codes "rk_daemon::gate") then kind.Handler
-    else (if bytes_eq path (codes "rk_daemon::watching") then kind.Slow
+    else (if bytes_eq path (codes "rk_daemon::system_post") then kind.Slow
     else (if bytes_eq path (codes "rk_daemon::entrance") then kind.Busy
     else (if bytes_eq path (codes "rk_daemon::accepting") then kind.Accept else kind.Other))))
 

@@ -141,13 +141,11 @@ pub struct InHalls {
 
 impl InHalls {
     ghost use Rattle.std.specs.Prelude.{◌≡◌};
+    ghost use Rattle.rk_daemon.specs.InHalls.{in_halls};
 
     /// What was counted in halls 0 to 3.
     pub fn of(zero: Counts, one: Counts, two: Counts, three: Counts) -> InHalls
-        ensures keys { result.keys ≡ record { zero = zero.keys; one = one.keys; two = two.keys; three = three.keys } }
-        ensures constructions { result.constructions
-            ≡ record { zero = zero.constructions; one = one.constructions; two = two.constructions; three = three.constructions } }
-        ensures edquots { result.edquots ≡ record { zero = zero.edquots; one = one.edquots; two = two.edquots; three = three.edquots } }
+        ensures { result ≡ in_halls zero one two three }
     {
         InHalls {
             keys: PerHall {

@@ -1,10 +1,10 @@
 //! The handlers that run.
-ghost use Rattle.std.specs.Prelude.{◌≡◌, ◌<◌, ◌==◌, not, IfSome, filter, length, position};
+ghost use Rattle.std.specs.Prelude.{◌≡◌, ◌<◌, ◌==◌, ◌++◌, ◌∷◌, [], not, IfSome, OnErr, OnOk, filter, length, position};
 ghost use Rattle.rk_daemon.specs.Handlers.{is_slow, oldest_of, IsTaken};
 
 use crate::figures::{InRun, Oldest};
 use rk_names::Serial;
-use std::alloc::Global;
+use std::alloc::{AllocError, Global};
 use std::mem::replace;
 use std::sync::{Mutex, Wait};
 
@@ -76,6 +76,15 @@ fn oldest_of(running: &[Started], now: u64) -> Option<Oldest>
     })
 }
 
+/// One more runs, the last of them. An `Err` is out of memory, and leaves them as they were.
+fn add(running: &mut Vec<Started>, started: Started) -> Result<(), AllocError>
+    ensures added { OnOk result (running.new.items ≡ running.old.items ++ started ∷ []) }
+    ensures left { OnErr result (running.new.items ≡ running.old.items) }
+{
+    running.push(started)?;
+    Ok(())
+}
+
 /// The handler of this key runs no more. The others stay, in their order.
 fn leave_out(running: &mut Vec<Started>, key: Serial)
     ensures { running.new.items ≡ filter (λ s. not (s.key == key)) running.old.items }
@@ -105,7 +114,7 @@ impl Handlers {
             since: now,
             purpose: Some(purpose),
         };
-        let _ = self.running.lock(rt).push(started);
+        let _ = add(&mut self.running.lock(rt), started);
     }
 
     /// The handler of this key has ended, or was not started.

@@ -1,8 +1,8 @@
 //! How a client is read and written to, where signals interrupt and time runs out.
-ghost use Rattle.std.specs.Prelude.{◌≡◌, ◌≤◌, IfOk, IfSome, length, option_map};
+ghost use Rattle.std.specs.Prelude.{◌≡◌, ◌≤◌, IfOk, IfSome, length, option_map, true};
 ghost use Rattle.rk_daemon.specs.Hearing.{Hears, HearsOnce, Sends, SendsOnce, Watches};
 ghost use Rattle.rk_daemon.specs.Line.{outcome};
-ghost use Rattle.rk_daemon.specs.Lull.{fresh};
+ghost use Rattle.rk_daemon.specs.Lull.{fresh, is_timed};
 ghost use Rattle.rk_daemon.specs.Story.{Does};
 
 use crate::line::Line;
@@ -32,12 +32,20 @@ pub fn hear<R: Wait, L: Line>(
 }
 
 /// Looks at the clock if the wait is measured by it; whether it has lasted too long.
+#[inline(always)]
 fn is_late<L: Line>(line: &mut L, lull: &mut Lull) -> bool
     ensures { Does (Watches lull.old result lull.new) (L.story line.old) (L.story line.new) }
 {
-    if !lull.is_timed() {
-        return false;
-    }
+    lull.is_timed() && is_late_now(line, lull)
+}
+
+/// Looks at the clock; whether the wait has lasted too long.
+#[cold]
+#[inline(never)]
+fn is_late_now<L: Line>(line: &mut L, lull: &mut Lull) -> bool
+    requires { is_timed lull.old ≡ true }
+    ensures { Does (Watches lull.old result lull.new) (L.story line.old) (L.story line.new) }
+{
     let now = line.seconds();
     lull.is_over(now)
 }

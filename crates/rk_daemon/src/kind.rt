@@ -39,7 +39,7 @@ impl Kind {
         match path {
             "rk_daemon::workers" => Kind::Session,
             "rk_daemon::gate" => Kind::Handler,
-            "rk_daemon::watching" => Kind::Slow,
+            "rk_daemon::system_post" => Kind::Slow,
             "rk_daemon::entrance" => Kind::Busy,
             "rk_daemon::accepting" => Kind::Accept,
             _ => Kind::Other,

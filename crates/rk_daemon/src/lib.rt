@@ -19,15 +19,16 @@
 //! volumes of which `held` counts much, and a shelf that writes a volume into the folder of the `record`, or names it. `chain` has the volumes of
 //! each hall, `by_hall`, written in their order, and `drawn` the random numbers of a run. `path` takes the socket's path and gives it free, and `streams`
 //! takes the places of standard streams that are closed. `platform` names the types of all these for a worker's sessions. `workers` serves the `connections`
-//! that `accepting` hands out, `entrance` warns where they wait, and `serving` puts it all together. `watching` looks after the `handlers` that run, and tells
-//! the `figures`.
+//! that `accepting` hands out, `entrance` warns where they wait, and `serving` puts it all together. `watching` looks after the `handlers` that run each
+//! second, and tells the `figures`, by a `post`. `hearing` reads and writes on the `line` to a client, however signals interrupt that, for as long as its
+//! `lull` lasts.
 //!
 //! What `path` and `record` do to files is done by a `place` and a `folder`, traits that may tell it, so that contracts can say in which order: by the
 //! system's, of `system_place` and `system_folder`, or by those of a test. So connections come in by a `door`, `streams` are taken in `standard` places, and
 //! `binding` ties a volume to the one before it in a `bindery`.
 //!
 //! `reporter` makes each line of the log: an `entry` in the `style` of the journal or with the time, of a `kind`. `tally` counts the lines of each kind
-//! (`by_kind`). `ending` has the line of a handler that has ended, and `purpose` what one was started for.
+//! (`by_kind`). `ending` has the line of a handler that has ended, `purpose` what one was started for, and `parting` how a session has ended.
 #![tactic(auto)]
 
 mod accepting;
@@ -53,9 +54,11 @@ mod held;
 mod kind;
 mod line;
 mod lull;
+mod parting;
 mod path;
 mod place;
 mod platform;
+mod post;
 mod purpose;
 mod record;
 mod reporter;
@@ -70,6 +73,7 @@ mod system_door;
 mod system_folder;
 mod system_line;
 mod system_place;
+mod system_post;
 mod system_standard;
 mod tally;
 mod watching;
@@ -80,14 +84,17 @@ pub use bindery::Bindery;
 pub use binding::bind;
 pub use door::Door;
 pub use fault::Fault;
+pub use figures::{Clients, Figures, InHalls, InRun, Oldest, PerHall};
 pub use folder::Folder;
 pub use hearing::{hear, send};
 pub use line::Line;
 pub use lull::Lull;
 pub use path::{give_free, take};
 pub use place::{FileId, Place};
+pub use post::Post;
 pub use record::{Keeper, keep};
 pub use serving::serve;
 pub use settings::{LogSettings, Settings};
 pub use standard::{Standard, Stream};
 pub use streams::{StandIns, fill};
+pub use watching::look_after;

@@ -26,6 +26,7 @@ pub struct Lull {
 
 impl Lull {
     /// Nothing is waited for yet, at most for so many seconds; 0 for any time.
+    #[inline(always)]
     pub fn new(limit: u32) -> Lull
         ensures { result ≡ fresh limit }
     {
@@ -37,6 +38,7 @@ impl Lull {
     }
 
     /// Something has come. If nothing had before, the rest of its frame is waited for from now on.
+    #[inline(always)]
     pub fn hear(&mut self)
         ensures { self.new ≡ heard self.old }
     {
@@ -47,6 +49,7 @@ impl Lull {
     }
 
     /// A call was made that waits, and more such may follow: all of them are one wait.
+    #[inline(always)]
     pub fn begin(&mut self)
         ensures { self.new ≡ begun self.old }
     {

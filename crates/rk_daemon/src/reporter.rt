@@ -44,7 +44,7 @@ impl LogState {
 }
 
 /// The whole minutes of so many seconds.
-fn minute_of(seconds: u64) -> u64
+pub fn minute_of(seconds: u64) -> u64
     ensures { result ≡ seconds / 60 }
 {
     seconds / 60

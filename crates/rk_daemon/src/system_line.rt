@@ -32,14 +32,19 @@ impl<'a, R: Clock> SystemLine<'a, R> {
 impl<'a, R: Clock> Line for SystemLine<'a, R> {
     ghost story = { λ line. None };
 
+    #[inline(always)]
     fn read(&mut self, buf: &mut [u8]) -> io::Result<usize> {
         self.stream.read(buf)
     }
 
+    #[inline(always)]
     fn write(&mut self, bytes: &[u8]) -> io::Result<usize> {
         self.stream.write(bytes)
     }
 
+    // (It is not inlined: it is rare, and whoever calls it would have room for it on the stack at each read.)
+    #[cold]
+    #[inline(never)]
     fn seconds(&mut self) -> u64 {
         match self.rt.monotonic() {
             Ok(passed) => passed.as_secs(),

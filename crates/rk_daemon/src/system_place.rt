@@ -1,5 +1,6 @@
 //! Paths of the system.
-ghost use Rattle.std.specs.Prelude.{None};
+ghost use Rattle.std.specs.Prelude.{◌≡◌, None};
+ghost use Rattle.rk_daemon.specs.Place.{is_of_nobody};
 
 use crate::place::{FileId, Place};
 use std::fs::Files;
@@ -61,10 +62,7 @@ impl<'a, R: Files + Net> Place for SystemPlace<'a, R> {
         }
         match UnixStream::connect(self.rt, path) {
             Ok(_) => Ok(false),
-            Err(error) => Ok(matches!(
-                error.kind(),
-                ErrorKind::ConnectionRefused | ErrorKind::NotFound
-            )),
+            Err(error) => Ok(is_of_nobody(error.kind())),
         }
     }
 
@@ -84,4 +82,12 @@ impl<'a, R: Files + Net> Place for SystemPlace<'a, R> {
             removed => removed,
         }
     }
+}
+
+/// Whether a connect that has failed so says that nobody listens: it is refused (`connect(2)`), or the file has gone meanwhile. One whose queue is full, or
+/// that may not be opened, is somebody's.
+fn is_of_nobody(kind: ErrorKind) -> bool
+    ensures { result ≡ is_of_nobody kind }
+{
+    matches!(kind, ErrorKind::ConnectionRefused | ErrorKind::NotFound)
 }

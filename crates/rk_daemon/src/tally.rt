@@ -15,19 +15,22 @@ pub struct Count {
     minute: u64,
     /// How many lines were written in it.
     written: u32,
-    /// How many were left out, at most the greatest u32.
+    /// How many were left out in it, at most the greatest u32.
     left_out: u32,
+    /// How many were left out in the minutes before it, at most the greatest u32.
+    earlier: u32,
 }
 
 impl Count {
     /// No line yet.
     fn new() -> Count
-        ensures { result ≡ record { minute = 0; written = 0; left_out = 0 } }
+        ensures { result ≡ record { minute = 0; written = 0; left_out = 0; earlier = 0 } }
     {
         Count {
             minute: 0,
             written: 0,
             left_out: 0,
+            earlier: 0,
         }
     }
 
@@ -40,6 +43,8 @@ impl Count {
         if minute > self.minute {
             self.minute = minute;
             self.written = 0;
+            self.earlier = self.earlier.saturating_add(self.left_out);
+            self.left_out = 0;
         }
         if self.written < MOST {
             self.written += 1;
@@ -54,11 +59,12 @@ impl Count {
         ensures counts { self.new ≡ emptied minute self.old }
         ensures told { result ≡ left_out minute self.old }
     {
-        if minute <= self.minute {
-            return 0;
+        let mut count = self.earlier;
+        self.earlier = 0;
+        if self.minute < minute {
+            count = count.saturating_add(self.left_out);
+            self.left_out = 0;
         }
-        let count = self.left_out;
-        self.left_out = 0;
         count
     }
 }

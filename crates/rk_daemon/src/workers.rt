@@ -8,6 +8,7 @@ use crate::connections::Connections;
 use crate::gate::Relief;
 use crate::handlers::Handlers;
 use crate::held::Held;
+use crate::parting::parting_text;
 use crate::platform::WorkerPlatform;
 use crate::record::Keeper;
 use crate::reporter::{LogState, Reporter};
@@ -124,7 +125,8 @@ fn serve_client<P: Platform, R: Wait + Eprint + Clock>(
         Delay::Silent => info!(log; "session {number}: idle"),
         Delay::Deaf => warn!(log; "session {number}: its replies are not read"),
         Delay::None => if served != Served::Ended {
-            warn!(log; "session {number}: {served:?}");
+            let how = parting_text(served);
+            warn!(log; "session {number}: {how}");
         },
     }
 }

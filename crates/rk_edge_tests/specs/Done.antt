@@ -5,6 +5,7 @@ use Rattle.rk_daemon.specs.Door as door
 use Rattle.rk_daemon.specs.Folder as folder
 use Rattle.rk_daemon.specs.Line as line
 use Rattle.rk_daemon.specs.Place as place
+use Rattle.rk_daemon.specs.Post as post
 use Rattle.rk_daemon.specs.Streams as streams
 use Rattle.rk_run.specs.Seen.{seen_in}
 use Rattle.rk_run.specs.Story as story
@@ -14,6 +15,8 @@ use Rattle.rk_edge_tests.specs.declared.done.AtPath.{AtPath}
 use Rattle.rk_edge_tests.specs.declared.done.AtPath.TheVariants as at
 use Rattle.rk_edge_tests.specs.declared.done.AtDoor.{AtDoor}
 use Rattle.rk_edge_tests.specs.declared.done.AtDoor.TheVariants as opening
+use Rattle.rk_edge_tests.specs.declared.done.AtPost.{AtPost}
+use Rattle.rk_edge_tests.specs.declared.done.AtPost.TheVariants as looking
 use Rattle.rk_edge_tests.specs.declared.done.InFolder.{InFolder}
 use Rattle.rk_edge_tests.specs.declared.done.InFolder.TheVariants as within
 use Rattle.rk_edge_tests.specs.declared.done.InPlace.{InPlace}
@@ -53,6 +56,17 @@ at_door (opening.Watched is_over) = door.Watched is_over
 at_door (opening.Accepted is_done) = door.Accepted is_done
 at_door opening.Paused = door.Paused
 at_door (opening.HandedOut number is_taken) = door.HandedOut number is_taken
+
+-- each second
+abbrev pub at_post : AtPost → post.Act
+at_post (looking.Looked second) = post.Looked second
+at_post (looking.LeftOut minute) = post.ToldLeftOut minute
+at_post (looking.Slow now seconds) = post.ToldSlow now seconds
+at_post (looking.Clients found) = post.FoundClients found
+at_post (looking.Handlers now found) = post.FoundHandlers now found
+at_post (looking.Counted hall counts) = post.Counted hall counts
+at_post (looking.Volumes count) = post.FoundVolumes count
+at_post (looking.Told figures) = post.Told figures
 
 -- on the line to a client
 abbrev pub on_line : OnLine → line.Act

@@ -1,7 +1,8 @@
 //! What is done outside of a program, kept. It stands here, and not among the tests, since `specs/` says what it means.
 
 use rk_client::PeerFault;
-use rk_daemon::{FileId, Stream};
+use rk_daemon::{Clients, Figures, FileId, InRun, Stream};
+use rk_hall::{Counts, HallNo};
 use rk_message::{Ask, Reply};
 use rk_rejoin::ReadFault;
 use rk_run::{Here, StartFault};
@@ -61,6 +62,27 @@ pub enum OnLine {
     Written(Vec<u8>, Result<usize, ErrorKind>),
     /// The clock is looked at.
     Looked(u64),
+}
+
+/// What is looked after and told each second.
+#[derive(Clone, Copy)]
+pub enum AtPost {
+    /// The clock is looked at.
+    Looked(u64),
+    /// How many lines were left out before a minute.
+    LeftOut(u64),
+    /// Which handlers have run now for so many seconds.
+    Slow(u64, u64),
+    /// The connections are counted.
+    Clients(Clients),
+    /// The handlers that run now are counted.
+    Handlers(u64, InRun),
+    /// What is in a hall is counted.
+    Counted(HallNo, Counts),
+    /// The volumes are counted.
+    Volumes(u64),
+    /// Figures are told.
+    Told(Figures),
 }
 
 /// What is done in the places of the standard streams.
