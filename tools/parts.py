@@ -26,7 +26,7 @@ PARTS = {
     "Replay": Part((330, 200), SAND, "a machine that a script drives", "rk_served rk_replay"),
     "Machine": Part((177, 288), BLUE, "keys, rings, authorities, and their steps", "rk_keys rk_rings rk_auth rk_machine rk_core"),
     "Formats": Part((330, 376), BLUE, "frames, messages, the configuration", "rk_frame rk_message rk_conf rk_macro"),
-    "Values": Part((330, 464), BLUE, "text, names, numbers, tables", "rk_lemmas rk_text rk_names rk_glob rk_table rk_options rk_variables"),
+    "Values": Part((330, 464), BLUE, "text, names, numbers, tables", "rk_lemmas rk_text rk_names rk_glob rk_table rk_options rk_variables rk_wrappers"),
     "Clients": Part((636, 24), GREY, "reqkeyctl; beside it C, Python, the trap", "rk_client rk_run rk_ctl reqkeyctl"),
 }
 
