@@ -65,7 +65,7 @@ NEEDS = {
 OF_KEYUTILS = ["test_container", "test_keyutils", "test_stock", "test_trap"]
 # Those that depend on the clock: something has to come within some tenths of a second, or within the seconds for which a key lives; in test_trap one of two
 # processes has to be the first to want a descriptor.
-BY_THE_CLOCK = ["test_demo", "test_keyutils", "test_record", "test_stock", "test_trap"]
+BY_THE_CLOCK = ["test_demo", "test_door", "test_handlers", "test_keyutils", "test_record", "test_stock", "test_trap"]
 # Those that take more memory than others: up to 2 GB.
 LARGE = ["test_fuzz", "test_lots", "test_trap", "test_wrong"]
 # Those that take longer than others, in processor seconds. Tests come before edits, whose rank is how many of a crate there are.
