@@ -97,9 +97,10 @@ impl<'a, R: Abort> Line for Telling<'a, R> {
     }
 
     fn seconds(&mut self) -> u64 {
-        self.now = self.now.saturating_add(self.step);
-        self.keep(OnLine::Looked(self.now));
-        self.now
+        let now = self.now.saturating_add(self.step);
+        self.now = now;
+        self.keep(OnLine::Looked(now));
+        now
     }
 }
 

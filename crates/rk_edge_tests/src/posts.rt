@@ -41,8 +41,9 @@ impl<'a, R: Abort> Post for Telling<'a, R> {
     ghost story = { λ post. Some (map at_post post.done.items) };
 
     fn seconds(&mut self) -> u64 {
-        self.keep(AtPost::Looked(self.now));
-        self.now
+        let now = self.now;
+        self.keep(AtPost::Looked(now));
+        now
     }
 
     fn tell_left_out(&mut self, minute: u64) {
