@@ -815,7 +815,7 @@ ROWS = {
 def table(program, door_program):
     """Each row of SECURITY.md's table: at a socket that everybody can reach, behind a door, in a trap, and in a container."""
     lines = [line.strip("|").split("|") for line in (top / "SECURITY.md").read_text().split("\n") if line.startswith("| ") and not line.startswith("| |")]
-    rows = {line[0].strip(): [re.match(r" (\w+)", cell)[1] for cell in line[1:]] for line in lines}
+    rows = {line[0].strip(): [re.match(r" (\w+)", cell)[1] for cell in line[1:]] for line in lines if len(line) == 5}
     same(sorted(rows), sorted(ROWS), "the rows")
     if not notifies():
         print("the table of SECURITY.md: not tried, this kernel hands no calls to a supervisor")
