@@ -157,8 +157,8 @@ def tables():
     """The tables of the tool are those of the page."""
     page = (top / "docs" / "PROTOCOL.md").read_text().replace("`", "")
     parts = {text.split("\n")[0]: text for text in page.split("\n## ")}
-    asks = [" ".join(row) for row in re.findall(r"^\| (\d+) \| ([A-Z]+) \| ([^|]*) \|", parts["Asks"], re.MULTILINE)]
-    count.same("the asks of docs/PROTOCOL.md", asks, messages.ASKS.strip().split("\n"))
+    asks = [" ".join(row) for row in re.findall(r"^\| (\d+) \| ([A-Z]+) \| ([^|]*) \|", parts["Requests"], re.MULTILINE)]
+    count.same("the requests of docs/PROTOCOL.md", asks, messages.ASKS.strip().split("\n"))
     replies = [(int(kind), name) for kind, name in re.findall(r"^\| (\d) \| ([A-Z][a-z]+) \|", parts["Replies"], re.MULTILINE)]
     count.same("its replies", replies, [row[:2] for row in messages.REPLIES])
     errnos = {int(number): name for number, name in re.findall(r"\| (\d+) \| (E[A-Z]+) ", parts["Replies"])}
