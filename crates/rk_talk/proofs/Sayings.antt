@@ -26,10 +26,10 @@ use Rattle.rk_hall.specs.declared.lapse.CallFault.{CallFault}
 use Rattle.rk_hall.specs.declared.lapse.CallFault.TheVariants as fault
 use Rattle.rk_talk.specs.declared.saying.Saying.{Saying}
 use Rattle.rk_talk.specs.declared.saying.Saying.TheVariants as saying
-use Rattle.rk_talk.specs.Said.{HasSettled, IsAnswered, IsCollected, IsNotAsked, IsRefusal, IsSettled, IsToWait, Settles}
+use Rattle.rk_talk.specs.Said.{HasSettled, IsAnswered, IsCollected, IsLeft, IsNotAsked, IsRefusal, IsSettled, IsToWait, Met, Settles, WasLeft, WasRefused, WasSettled}
 use Rattle.rk_talk.specs.Stays.{Stays}
 
-abbrev is_there : {A : Type 0} → Option A → Type 0
+abbrev pub is_there : {A : Type 0} → Option A → Type 0
 is_there (Some x) = Unit {0}
 is_there None = ⊥
 
@@ -38,13 +38,22 @@ pub none_started : (hall : HallNo) (a : Answer) (launch : Option TokenShown) →
 none_started hall a (Some l) has is = absurd (subst is_there (sym (ap started has.1) ∙ is) tt)
 none_started hall a None has is = refl
 
--- if its call gave this receipt
-pub receipt_answers : (session : SessionId) (hall : HallNo) (now : ℕ) (a : Ask) (old called mid new : SeatShown) (n : Noted) (launch : Option TokenShown)
-    (s : Saying) → IsCalled hall now (told.Asked session a) (part hall old) n → called ≡ with_part hall old (after_call (part hall old) (Asked session a) n)
-    → HasLaunch hall n.answer launch → Stays called mid → (launch ≡ None → mid ≡ called) → Settles hall session n mid new s
-    → IsAnswered session hall a old new s
-receipt_answers session hall now a old called mid new n launch s noted is has stays idle settles =
-    HasSettled now n mid noted (subst (λ seat. Stays seat mid) is stays) (λ none. idle (none_started hall n.answer launch has none) ∙ is) settles
+module _ (tells : ℕ → Type 0) (also : Met → Type 0) (session : SessionId) (hall : HallNo) (a : Ask) (old called : SeatShown) (n : Noted) where
+  -- if its call gave this receipt
+  pub receipt_answers : (now : ℕ) (mid new : SeatShown) (launch : Option TokenShown) (s : Saying) → tells now
+      → IsCalled hall now (told.Asked session a) (part hall old) n → called ≡ with_part hall old (after_call (part hall old) (Asked session a) n)
+      → HasLaunch hall n.answer launch → Stays called mid → (launch ≡ None → mid ≡ called) → Settles tells hall session n mid new s → also (WasSettled n)
+      → IsAnswered tells also session hall a old new s
+  receipt_answers now mid new launch s at noted is has stays idle settles more =
+      HasSettled now n mid at noted (subst (λ seat. Stays seat mid) is stays) (λ none. idle (none_started hall n.answer launch has none) ∙ is) settles more
+
+  -- if it gave this one, and what it waits for was left
+  pub receipt_left : (now : ℕ) (new : SeatShown) (launch : Option TokenShown) (s : Saying) → tells now
+      → IsCalled hall now (told.Asked session a) (part hall old) n → called ≡ with_part hall old (after_call (part hall old) (Asked session a) n)
+      → HasLaunch hall n.answer launch → Stays called new → (launch ≡ None → new ≡ called) → s ≡ saying.Behind → also (WasLeft n)
+      → IsAnswered tells also session hall a old new s
+  receipt_left now new launch s at noted is has stays idle none more =
+      IsLeft now n at noted (subst (λ seat. Stays seat new) is stays) (λ l. idle (none_started hall n.answer launch has l) ∙ is) none more
 
 -- if its call was refused
 pub refusal_settled : (f : CallFault) (s : Saying) → IsRefusal f s → IsSettled s
@@ -62,11 +71,24 @@ collected_settled hall now session old new (saying.Short e) is = tt
 collected_settled hall now session old new saying.Behind is = tt
 
 -- if its call gave this receipt
-receipt_settled : (hall : HallNo) (session : SessionId) (old new : SeatShown) (r : Noted) (s : Saying) → Settles hall session r old new s → IsSettled s
-receipt_settled hall session old new r s (inl is) = subst IsSettled (sym is.0) is.1
-receipt_settled hall session old new r s (inr waits) = collected_settled hall waits.1 session old new s waits.2
+pub receipt_settled : (tells : ℕ → Type 0) (hall : HallNo) (session : SessionId) (old new : SeatShown) (r : Noted) (s : Saying)
+    → Settles tells hall session r old new s → IsSettled s
+receipt_settled tells hall session old new r s (inl is) = subst IsSettled (sym is.0) is.1
+receipt_settled tells hall session old new r s (inr waits) = collected_settled hall waits.1 session old new s waits.3
 
 -- however its ask came to it
-pub answered_settled : (session : SessionId) (hall : HallNo) (a : Ask) (old new : SeatShown) (s : Saying) → IsAnswered session hall a old new s → IsSettled s
-answered_settled session hall a old new s (IsNotAsked f refused is same) = refusal_settled f s is
-answered_settled session hall a old new s (HasSettled now n mid called stays alone settles) = receipt_settled hall session mid new n s settles
+pub answered_settled : (tells : ℕ → Type 0) (also : Met → Type 0) (session : SessionId) (hall : HallNo) (a : Ask) (old new : SeatShown) (s : Saying)
+    → IsAnswered tells also session hall a old new s → IsSettled s
+answered_settled tells also session hall a old new s (IsNotAsked f refused is same more) = refusal_settled f s is
+answered_settled tells also session hall a old new s (HasSettled now n mid at called stays alone settles more) =
+    receipt_settled tells hall session mid new n s settles
+answered_settled tells also session hall a old new s (IsLeft now n at called stays alone none more) = subst IsSettled (sym none) tt
+
+-- what else holds may be said otherwise
+pub answered_also : (tells : ℕ → Type 0) (also also' : Met → Type 0) (session : SessionId) (hall : HallNo) (a : Ask) (old new : SeatShown) (s : Saying)
+    → ((m : Met) → also m → also' m) → IsAnswered tells also session hall a old new s → IsAnswered tells also' session hall a old new s
+answered_also tells also also' session hall a old new s f (IsNotAsked fault refused is same more) = IsNotAsked fault refused is same (f WasRefused more)
+answered_also tells also also' session hall a old new s f (HasSettled now n mid at called stays alone settles more) =
+    HasSettled now n mid at called stays alone settles (f (WasSettled n) more)
+answered_also tells also also' session hall a old new s f (IsLeft now n at called stays alone none more) =
+    IsLeft now n at called stays alone none (f (WasLeft n) more)

@@ -37,11 +37,11 @@ abbrev pub IsSettled : Saying → Type 0
 IsSettled (saying.Noted n) = IsToWait n.answer → ⊥
 IsSettled _ = Unit {0}
 
--- what is to be said where a call gave this receipt: itself, and the seat made no turn; or what the wait came to
-abbrev pub Settles : HallNo → SessionId → Noted → SeatShown → SeatShown → Saying → Type 0
-Settles hall session receipt old new s =
+-- what is to be said where a call gave this receipt: itself, and the seat made no turn; or what the wait came to, at a moment that the clock told
+abbrev pub Settles : (ℕ → Type 0) → HallNo → SessionId → Noted → SeatShown → SeatShown → Saying → Type 0
+Settles tells hall session receipt old new s =
     ((s ≡ saying.Noted receipt) × (IsToWait receipt.answer → ⊥) × (new ≡ old))
-    ⊎ (IsToWait receipt.answer × (now : ℕ) × IsCollected hall now session old new s)
+    ⊎ (IsToWait receipt.answer × (now : ℕ) × tells now × IsCollected hall now session old new s)
 
 -- what is to be said where a call was refused
 abbrev pub IsRefusal : CallFault → Saying → Type 0
@@ -49,20 +49,38 @@ IsRefusal (fault.Behind seen found) s = s ≡ saying.Behind
 IsRefusal fault.Full s = s ≡ saying.Short Edquot
 IsRefusal fault.NoMemory s = s ≡ saying.Short Enomem
 
--- an ask was made in this hall, and that is to be said of it
-pub data IsAnswered (session : SessionId) (hall : HallNo) (a : Ask) (old new : SeatShown) (s : Saying) : Type 0 where
+-- how far an ask came: its call was refused; or it gave this receipt, and that was settled; or it did, and was left there, since the session is
+-- at its end
+pub data Met : Type 0 where
+  WasRefused : Met
+  WasSettled : Noted → Met
+  WasLeft : Noted → Met
+
+-- of an ask that is not left nothing else is said
+abbrev pub IsKept : Met → Type 0
+IsKept (WasLeft n) = ⊥
+IsKept _ = Unit {0}
+
+-- an ask was made in this hall, and that is to be said of it. The moments of the session's turns are such as its clock tells, and what `also` says holds of how
+-- far it came
+pub data IsAnswered (tells : ℕ → Type 0) (also : Met → Type 0) (session : SessionId) (hall : HallNo) (a : Ask) (old new : SeatShown) (s : Saying) : Type 0 where
   -- its call was refused, and the seat is as before
-  IsNotAsked : (f : CallFault) → CallRefused (part hall old) f → IsRefusal f s → new ≡ old → IsAnswered session hall a old new s
+  IsNotAsked : (f : CallFault) → CallRefused (part hall old) f → IsRefusal f s → new ≡ old → also WasRefused → IsAnswered tells also session hall a old new s
   -- its call was one turn of the seat; what that started was brought to its end, and the seat made no other turn where nothing was started; and then its
   -- receipt settled
-  HasSettled : (now : ℕ) (n : Noted) (mid : SeatShown) → IsCalled hall now (told.Asked session a) (part hall old) n
+  HasSettled : (now : ℕ) (n : Noted) (mid : SeatShown) → tells now → IsCalled hall now (told.Asked session a) (part hall old) n
       → Stays (with_part hall old (after_call (part hall old) (event.Asked session a) n)) mid
       → (started n.answer ≡ None → mid ≡ with_part hall old (after_call (part hall old) (event.Asked session a) n))
-      → Settles hall session n mid new s → IsAnswered session hall a old new s
+      → Settles tells hall session n mid new s → also (WasSettled n) → IsAnswered tells also session hall a old new s
+  -- its call was one turn of the seat, and what that started was brought to its end; then nothing more is done, and nothing is to be said
+  IsLeft : (now : ℕ) (n : Noted) → tells now → IsCalled hall now (told.Asked session a) (part hall old) n
+      → Stays (with_part hall old (after_call (part hall old) (event.Asked session a) n)) new
+      → (started n.answer ≡ None → new ≡ with_part hall old (after_call (part hall old) (event.Asked session a) n))
+      → s ≡ saying.Behind → also (WasLeft n) → IsAnswered tells also session hall a old new s
 
 -- what is to be said of a message whose ask is made in this hall
-pub data Says (session : SessionId) (hall : HallNo) (body : List ℕ) (old new : SeatShown) : Saying → Type 0 where
+pub data Says (tells : ℕ → Type 0) (session : SessionId) (hall : HallNo) (body : List ℕ) (old new : SeatShown) : Saying → Type 0 where
   -- the body spells no ask: nothing was done
-  NotRead : (e : Errno) → IsRefusedAs e body → new ≡ old → Says session hall body old new (saying.Short e)
+  NotRead : (e : Errno) → IsRefusedAs e body → new ≡ old → Says tells session hall body old new (saying.Short e)
   -- its ask was made
-  IsMade : (a : Ask) (s : Saying) → Spells a body → IsAnswered session hall a old new s → Says session hall body old new s
+  IsMade : (a : Ask) (s : Saying) → Spells a body → IsAnswered tells IsKept session hall a old new s → Says tells session hall body old new s

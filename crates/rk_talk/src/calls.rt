@@ -1,4 +1,4 @@
-//! Calls of the halls. If the record is full, its volume is handed out and the call made once more.
+//! Calls of the halls. If the record is full, its volume is handed out and the call made again.
 ghost use Rattle.std.specs.Prelude.{◌≡◌, ◌⊎◌, IfOk, IfSome, IfErr, OnErr};
 ghost use Rattle.rk_record.specs.Copies.{told_of};
 ghost use Rattle.rk_record.specs.declared.told.ToldOf.TheVariants as told;
@@ -33,13 +33,14 @@ fn make_places<P: Platform>(stage: &Stage<'_, P>, hall: HallNo) -> Result<(), Ca
     ensures { IfErr result (λ f. (f ≡ CallFault.Full) ⊎ (f ≡ CallFault.NoMemory)) }
 {
     if let Some(volume) = full_volume(stage, hall)? {
-        stage.shelf.put(stage.rt, &volume);
-        stage.halls.take_back(stage.rt, volume);
+        if let Some(volume) = stage.shelf.put(stage.rt, volume) {
+            stage.halls.take_back(stage.rt, volume);
+        }
     }
     Ok(())
 }
 
-/// Makes an ask, as `Halls::ask` does. If the record is full, its volume goes to the shelf, and the call is made once more; only a refusal then is
+/// Makes an ask, as `Halls::ask` does. If the record is full, its volume goes to the shelf, and the call is made again; only a refusal then is
 /// answered. It may wait.
 pub fn ask_in<'a, P: Platform>(
     stage: &Stage<'_, P>,
@@ -66,7 +67,7 @@ pub fn ask_in<'a, P: Platform>(
     }
 }
 
-/// Opens the session there, as `Halls::open` does. If the record is full, its volume goes to the shelf, and the call is made once more. It may wait.
+/// Opens the session there, as `Halls::open` does. If the record is full, its volume goes to the shelf, and the call is made again. It may wait.
 pub fn open_in<P: Platform>(
     stage: &Stage<'_, P>,
     seat: &mut Seat<P::Names>,

@@ -8,8 +8,8 @@
 //!
 //! # What it promises
 //!
-//! A call is refused as the hall's is. If the hall's record is full, its volume goes to the [`Shelf`], the ask is read again from its body and the
-//! call made once more, and only a refusal then is answered. What is said of an ask is the answer of one receipt, of the ask itself or of the collect
+//! A call is refused as the hall's is. If the hall's record is full, its volume goes to the [`Shelf`] and the call is made again; only a refusal then
+//! is answered. A volume that the shelf doesn't keep gives its memory back to its hall. What is said of an ask is the answer of one receipt, of the ask itself or of the collect
 //! of its outcome; EDQUOT or ENOMEM if its call was refused; or nothing, if the seat has seen more than the hall has. The bytes of a reply are
 //! the one spelling of what the answer says, with its length before it. Those of a number and of a refusal take no memory ([`Frame`]), so that ENOMEM
 //! can be answered too, and so can what became of an ask that was done.

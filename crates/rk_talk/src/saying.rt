@@ -1,4 +1,5 @@
 //! What is to be said of a message.
+ghost use Rattle.std.specs.Prelude.{◌≡◌};
 ghost use Rattle.rk_talk.specs.Said.{IsCollected, Settles, IsRefusal};
 ghost use Rattle.rk_talk.specs.Stays.{Stays};
 
@@ -49,8 +50,9 @@ pub fn settled<'a, P: Platform>(
     session: SessionId,
     receipt: ReceiptView<'a>,
 ) -> Saying<'a>
-    ensures said { Settles hall session receipt.entry caller.old.seat caller.new.seat result }
+    ensures said { Settles P.Clock.tells hall session receipt.entry caller.old.seat caller.new.seat result }
     ensures stays { Stays caller.old.seat caller.new.seat }
+    ensures gate { P.Gate.story caller.new.gate ≡ P.Gate.story caller.old.gate }
 {
     match receipt.answer() {
         Answer::Done(_) | Answer::Refused(_) => Saying::Noted(receipt),

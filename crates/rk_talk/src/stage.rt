@@ -1,8 +1,8 @@
 //! What is around a session: what a worker shares with others, and what is its own.
 //!
 //! Every function from a connection's first byte to a handler's last reply wants most of it, so it stands in three structs: [`Stage`] is shared and
-//! never changes, [`Caller`] is who makes the calls, and [`Crew`] is a caller with the launcher of its handlers and the room for what it reads. Which
-//! types they are of, a [`Platform`] says: the daemon has one, and each test its own.
+//! never changes, [`Caller`] is who makes the calls, with its own gate, and [`Crew`] is a caller with the launcher of its handlers and the room for what
+//! it reads. Which types they are of, a [`Platform`] says: the daemon has one, and each test its own.
 
 use crate::shelf::Shelf;
 use rk_conf::Conf;
@@ -30,7 +30,7 @@ pub trait Platform {
     type Gate: Gate;
 
     /// Takes the volumes of full records.
-    type Shelf: Shelf;
+    type Shelf: Shelf<Self::Names>;
 }
 
 /// What workers share.
@@ -44,18 +44,18 @@ pub struct Stage<'a, P: Platform> {
     pub halls: &'a Halls<P::Names>,
     /// Which command makes which key.
     pub conf: &'a Conf,
-    /// Learns of starts, ends and replies, and may hold a thread there.
-    pub gate: &'a P::Gate,
     /// Takes the volumes of full records.
     pub shelf: &'a P::Shelf,
 }
 
-/// Who makes calls: its seat in the halls, and the clock by which it makes them.
+/// Who makes calls: its seat in the halls, the clock by which it makes them, and who learns what becomes of them.
 pub struct Caller<P: Platform> {
     /// Counts its turns in each hall, and what it has seen there.
     pub seat: Seat<P::Names>,
     /// Gives each call its moment.
     pub clock: P::Clock,
+    /// Learns of its starts, ends and replies, and may hold it there.
+    pub gate: P::Gate,
 }
 
 /// A caller that can start handlers. It can't be dropped, since a seat is to be given back: it is taken apart.
