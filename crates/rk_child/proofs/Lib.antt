@@ -1,3 +1,4 @@
+pub mod Learning
 pub mod Passing
 pub mod Running
 pub mod Taking

@@ -1,5 +1,6 @@
 pub mod Commands
 pub mod Driving
+pub mod Learning
 pub mod Making
 pub mod Passing
 pub mod Replying

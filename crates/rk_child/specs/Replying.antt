@@ -15,8 +15,8 @@ use Rattle.rk_talk.specs.declared.saying.Saying.{Saying}
 use Rattle.rk_talk.specs.declared.saying.Saying.TheVariants.{Noted, Short, Behind}
 
 -- of a message of the handler of this key, whose asks are made in the hall of that key
-abbrev pub SaysOf : ℕ → List ℕ → SeatShown → SeatShown → Saying → Type 0
-SaysOf key body old new s = (hall : HallNo) × (hall_number hall ≡ key % 4) × Says (Handler key) hall body old new s
+abbrev pub SaysOf : (ℕ → Type 0) → ℕ → List ℕ → SeatShown → SeatShown → Saying → Type 0
+SaysOf tells key body old new s = (hall : HallNo) × (hall_number hall ≡ key % 4) × Says tells (Handler key) hall body old new s
 
 -- the reply to what is to be said: that of the receipt's answer, or ENOMEM if that has no frame; or the errno
 abbrev pub IsReplyTo : Saying → Reply → Type 0

@@ -2,10 +2,11 @@
 ghost use Rattle.std.specs.Prelude.{◌≡◌, ◌≤◌, ◌<◌, ◌+◌, ◌||◌, length, OnOk, IfErr, None, true};
 ghost use Rattle.rk_devices.specs.Counts.{most};
 ghost use Rattle.rk_names.specs.declared.numbers.SessionId.TheVariants.{Handler};
-ghost use Rattle.rk_talk.specs.Said.{IsAnswered};
+ghost use Rattle.rk_talk.specs.Said.{IsAnswered, IsKept};
 ghost use Rattle.rk_talk.specs.Stays.{Stays};
 ghost use Rattle.rk_devices.specs.Shown.{FailsReading, GoesOn, ReadsUpTo};
 ghost use Rattle.rk_child.specs.Driving.{Runs};
+ghost use Rattle.rk_child.specs.Learning.{LearnsMore};
 ghost use Rattle.rk_child.specs.Making.{says_made};
 ghost use Rattle.rk_child.specs.Rooms.{IsEmpty};
 ghost use Rattle.rk_child.specs.Talk.{IsAsked, Talked, standing_of};
@@ -15,7 +16,7 @@ use crate::driving::drive;
 use crate::making::says_made;
 use crate::replying::reply;
 use crate::spent::fail;
-use rk_devices::{Child, Clock, Course, Launcher, ReadFault, read_out};
+use rk_devices::{Child, Clock, Course, Gate, Launcher, ReadFault, read_out};
 use rk_frame::{Frames, MAX_READS, Next};
 use rk_hall::{Called, HallNo, Launch};
 use rk_message::AskView;
@@ -55,7 +56,7 @@ pub fn serve_asks<P: Platform>(
 ) -> (Result<(), ReadFault>, Course)
     requires bound { (P.Launcher.shown crew.old.launcher).count ≤ most }
     requires empty { IsEmpty frames }
-    ensures talked { Talked key result.0 crew.old.caller.seat (standing_of crew.new.caller.seat result.1) (P.Launcher.Started.shown child.old)
+    ensures talked { Talked P.Clock.tells key result.0 crew.old.caller.seat (standing_of crew.new.caller.seat result.1) (P.Launcher.Started.shown child.old)
         (P.Launcher.Started.shown child.new) }
     ensures runs { Runs stage.now.conf.now (depth + 1) (P.Launcher.shown crew.old.launcher) (P.Launcher.shown crew.new.launcher) }
     ensures child { GoesOn (P.Launcher.Started.shown child.old) (P.Launcher.Started.shown child.new) }
@@ -63,6 +64,7 @@ pub fn serve_asks<P: Platform>(
     ensures end { OnOk result.0 ((P.Launcher.Started.shown child.new).at_end ≡ true) }
     ensures fault { IfErr result.0 (λ f. FailsReading f (P.Launcher.Started.shown child.old) (P.Launcher.Started.shown child.new)) }
     ensures stays { Stays crew.old.caller.seat crew.new.caller.seat }
+    ensures learns { LearnsMore key (P.Gate.story crew.old.caller.gate) (P.Gate.story crew.new.caller.gate) }
 {
     let mut asks = Asks {
         frames,
@@ -88,7 +90,7 @@ pub fn serve_asks<P: Platform>(
     (Err(ReadFault::UsedUp), asks.course)
 }
 
-// Answers all messages that are there. False where the asks are at their end.
+// Answers all messages that are there, and tells the gate of each reply. False where the asks are at their end.
 #[cycle(driving)]
 fn answer_all<P: Platform>(
     stage: &Stage<'_, P>,
@@ -99,16 +101,17 @@ fn answer_all<P: Platform>(
     child: &mut <P::Launcher as Launcher>::Started,
 ) -> bool
     requires bound { (P.Launcher.shown crew.old.launcher).count ≤ most }
-    ensures takes { TakesAll key result (P.Launcher.Started.shown child.old) asks.old.frames (standing_of crew.old.caller.seat asks.old.course)
+    ensures takes { TakesAll P.Clock.tells key result (P.Launcher.Started.shown child.old) asks.old.frames (standing_of crew.old.caller.seat asks.old.course)
         (P.Launcher.Started.shown child.new) asks.new.frames (standing_of crew.new.caller.seat asks.new.course) }
     ensures runs { Runs stage.now.conf.now (depth + 1) (P.Launcher.shown crew.old.launcher) (P.Launcher.shown crew.new.launcher) }
     ensures child { GoesOn (P.Launcher.Started.shown child.old) (P.Launcher.Started.shown child.new) }
     ensures reads { (P.Launcher.Started.shown child.new).reads ≡ (P.Launcher.Started.shown child.old).reads }
     ensures stays { Stays crew.old.caller.seat crew.new.caller.seat }
+    ensures learns { LearnsMore key (P.Gate.story crew.old.caller.gate) (P.Gate.story crew.new.caller.gate) }
 {
     loop {
         match answer_next(stage, crew, key, depth, asks, child) {
-            Turned::Replied => {}
+            Turned::Replied => crew.caller.gate.answered(stage.rt, SessionId::Handler(key)),
             Turned::NoneYet => return true,
             Turned::AtEnd => return false,
         }
@@ -126,12 +129,13 @@ fn answer_next<P: Platform>(
     child: &mut <P::Launcher as Launcher>::Started,
 ) -> Turned
     requires bound { (P.Launcher.shown crew.old.launcher).count ≤ most }
-    ensures takes { Turns key result (P.Launcher.Started.shown child.old) asks.old.frames (standing_of crew.old.caller.seat asks.old.course)
+    ensures takes { Turns P.Clock.tells key result (P.Launcher.Started.shown child.old) asks.old.frames (standing_of crew.old.caller.seat asks.old.course)
         (P.Launcher.Started.shown child.new) asks.new.frames (standing_of crew.new.caller.seat asks.new.course) }
     ensures runs { Runs stage.now.conf.now (depth + 1) (P.Launcher.shown crew.old.launcher) (P.Launcher.shown crew.new.launcher) }
     ensures child { GoesOn (P.Launcher.Started.shown child.old) (P.Launcher.Started.shown child.new) }
     ensures reads { (P.Launcher.Started.shown child.new).reads ≡ (P.Launcher.Started.shown child.old).reads }
     ensures stays { Stays crew.old.caller.seat crew.new.caller.seat }
+    ensures learns { LearnsMore key (P.Gate.story crew.old.caller.gate) (P.Gate.story crew.new.caller.gate) }
 {
     match asks.frames.next() {
         Next::Whole(body) => {
@@ -140,12 +144,12 @@ fn answer_next<P: Platform>(
                 Ok(ask) => {
                     let saying = answered(stage, crew, key, depth, hall, &ask);
                     let course = &mut asks.course;
-                    replied(stage, &mut crew.reply, child, course, key, saying)
+                    replied(&mut crew.reply, child, course, key, saying)
                 }
                 Err(fault) => {
                     let saying = Saying::Short(fault.errno());
                     let course = &mut asks.course;
-                    replied(stage, &mut crew.reply, child, course, key, saying)
+                    replied(&mut crew.reply, child, course, key, saying)
                 }
             }
         }
@@ -158,8 +162,7 @@ fn answer_next<P: Platform>(
 }
 
 // Replies to the handler of this key, and notes whether what is said has completed the key.
-fn replied<P: Platform, C: Child>(
-    stage: &Stage<'_, P>,
+fn replied<C: Child>(
     buffer: &mut Vec<u8>,
     child: &mut C,
     course: &mut Course,
@@ -172,25 +175,26 @@ fn replied<P: Platform, C: Child>(
 {
     let completed = says_made(&saying, key);
     course.made = course.made || completed;
-    let session = SessionId::Handler(key);
-    if reply(stage, buffer, child, session, saying) {
+    if reply(buffer, child, saying) {
         Turned::Replied
     } else {
         Turned::AtEnd
     }
 }
 
-// What an ask has started is brought to its end. A start that isn't deeper than the handler's own is ended as one that failed.
+// What an ask of the handler of this key has started is brought to its end. A start that isn't deeper than the handler's own is ended as one that failed.
 #[cycle(driving)]
 fn brought_to_end<P: Platform>(
     stage: &Stage<'_, P>,
     crew: &mut Crew<P>,
     launch: Option<Launch<P::Names>>,
+    key: Serial,
     depth: u8,
 )
     requires bound { (P.Launcher.shown crew.old.launcher).count ≤ most }
     ensures runs { Runs stage.now.conf.now (depth + 1) (P.Launcher.shown crew.old.launcher) (P.Launcher.shown crew.new.launcher) }
     ensures stays { Stays crew.old.caller.seat crew.new.caller.seat }
+    ensures learns { LearnsMore key (P.Gate.story crew.old.caller.gate) (P.Gate.story crew.new.caller.gate) }
     ensures idle { launch ≡ None → crew.new.caller.seat ≡ crew.old.caller.seat }
 {
     if let Some(nested) = launch {
@@ -213,15 +217,16 @@ fn answered<'a, P: Platform>(
     ask: &'a AskView<'a>,
 ) -> Saying<'a>
     requires bound { (P.Launcher.shown crew.old.launcher).count ≤ most }
-    ensures says { IsAnswered (Handler key) hall ask.now crew.old.caller.seat crew.new.caller.seat result }
+    ensures says { IsAnswered P.Clock.tells IsKept (Handler key) hall ask.now crew.old.caller.seat crew.new.caller.seat result }
     ensures runs { Runs stage.now.conf.now (depth + 1) (P.Launcher.shown crew.old.launcher) (P.Launcher.shown crew.new.launcher) }
     ensures stays { Stays crew.old.caller.seat crew.new.caller.seat }
+    ensures learns { LearnsMore key (P.Gate.story crew.old.caller.gate) (P.Gate.story crew.new.caller.gate) }
 {
     let now = crew.caller.clock.now();
     let session = SessionId::Handler(key);
     match ask_in(stage, &mut crew.caller.seat, hall, now, session, ask) {
         Ok(Called { receipt, launch }) => {
-            brought_to_end(stage, crew, launch, depth);
+            brought_to_end(stage, crew, launch, key, depth);
             let session = SessionId::Handler(key);
             settled(stage, &mut crew.caller, hall, session, receipt)
         }

@@ -6,6 +6,7 @@ ghost use Rattle.rk_hall.specs.Seats.{negated};
 ghost use Rattle.rk_talk.specs.Stays.{Stays, SeesOn, clients_at};
 ghost use Rattle.rk_child.specs.Commands.{TellsWhy};
 ghost use Rattle.rk_child.specs.Driving.{Runs, FaultRose, TellsEnd, HasRun, HasTried, Drives};
+ghost use Rattle.rk_child.specs.Learning.{Learned, LearnsMore, LearnsOf};
 ghost use Rattle.rk_child.specs.Passing.{Attends, EitherPassed, HasPassed};
 ghost use Rattle.rk_child.specs.Rooms.{IsEmptyRoom};
 ghost use Rattle.rk_child.specs.Talk.{standing_of};
@@ -47,9 +48,10 @@ pub fn drive<P: Platform>(
     ensures end { TellsEnd result (P.Launcher.shown crew.old.launcher) (P.Launcher.shown crew.new.launcher) }
     ensures why { TellsWhy stage.now.conf.now launch.subject result }
     ensures commands { Drives stage.now.conf.now launch.subject result (P.Launcher.shown crew.old.launcher) (P.Launcher.shown crew.new.launcher) }
-    ensures passed { EitherPassed stage.now.conf.now launch result crew.old.caller.seat crew.new.caller.seat (P.Launcher.shown crew.new.launcher) }
+    ensures passed { EitherPassed P.Clock.tells stage.now.conf.now launch result crew.old.caller.seat crew.new.caller.seat (P.Launcher.shown crew.new.launcher) }
     ensures clients { clients_at crew.new.caller.seat ≡ clients_at crew.old.caller.seat }
     ensures seen { SeesOn crew.old.caller.seat crew.new.caller.seat }
+    ensures learned { Learned launch.key launch.subject result (P.Gate.story crew.old.caller.gate) (P.Gate.story crew.new.caller.gate) }
 {
     prove!(launch.depth() <= MAX_DEPTH);
     let (first, next) = run(stage, crew, launch);
@@ -75,9 +77,10 @@ fn run<P: Platform>(
     ensures end { TellsEnd result.0 (P.Launcher.shown crew.old.launcher) (P.Launcher.shown crew.new.launcher) }
     ensures why { TellsWhy stage.now.conf.now launch.subject result.0 }
     ensures commands { HasTried stage.now.conf.now launch.subject result.0 (P.Launcher.shown crew.old.launcher) (P.Launcher.shown crew.new.launcher) }
-    ensures passed { HasPassed stage.now.conf.now launch result.0 crew.old.caller.seat crew.new.caller.seat (P.Launcher.shown crew.new.launcher) }
+    ensures passed { HasPassed P.Clock.tells stage.now.conf.now launch result.0 crew.old.caller.seat crew.new.caller.seat (P.Launcher.shown crew.new.launcher) }
     ensures next { IfSome result.1 (λ l. (l ≡ negated launch) × HasRun result.0) }
     ensures stays { Stays crew.old.caller.seat crew.new.caller.seat }
+    ensures learns { LearnsOf launch.key launch.subject result.0 (P.Gate.story crew.old.caller.gate) (P.Gate.story crew.new.caller.gate) }
 {
     let now = crew.caller.clock.now();
     let Prepared { command, room } = match prepare(stage, &launch, now) {
@@ -108,10 +111,10 @@ fn run<P: Platform>(
             course: Course::new(),
             os_error: None,
         };
-        stage.gate.driven(stage.rt, report);
+        crew.caller.gate.driven(stage.rt, report);
         return (driven, None);
     };
-    stage.gate.started(stage.rt, key, running.subject());
+    crew.caller.gate.started(stage.rt, key, running.subject());
     let (read, output, course) = attend(stage, crew, &running, room, &mut child);
     let ended = wait_for(&mut child, read);
     crew.launcher.back(child);
@@ -141,12 +144,13 @@ fn attend<P: Platform>(
     requires empty { IsEmptyRoom room }
     ensures runs { Runs stage.now.conf.now (running.now.depth + 1) (P.Launcher.shown crew.old.launcher) (P.Launcher.shown crew.new.launcher) }
     ensures child { GoesOn (P.Launcher.Started.shown child.old) (P.Launcher.Started.shown child.new) }
-    ensures attends { Attends room running.now.key running.now.subject result.0 result.1 crew.old.caller.seat (standing_of crew.new.caller.seat result.2)
+    ensures attends { Attends P.Clock.tells room running.now.key running.now.subject result.0 result.1 crew.old.caller.seat (standing_of crew.new.caller.seat result.2)
         (P.Launcher.Started.shown child.old) (P.Launcher.Started.shown child.new) }
     ensures reads { ReadsUpTo 1048576 result.0 (P.Launcher.Started.shown child.old) (P.Launcher.Started.shown child.new) }
     ensures end { OnOk result.0 ((P.Launcher.Started.shown child.new).at_end ≡ true) }
     ensures fault { IfErr result.0 (λ f. FailsReading f (P.Launcher.Started.shown child.old) (P.Launcher.Started.shown child.new)) }
     ensures stays { Stays crew.old.caller.seat crew.new.caller.seat }
+    ensures learns { LearnsMore running.now.key (P.Gate.story crew.old.caller.gate) (P.Gate.story crew.new.caller.gate) }
 {
     match room {
         Room::Plain(frames) => {

@@ -1,8 +1,11 @@
 //! Launches and handlers that are at their end.
-ghost use Rattle.std.specs.Prelude.{◌≡◌, IfSome, None};
+ghost use Rattle.std.specs.Prelude.{◌≡◌, [], ◌∷◌, IfSome, None, Some};
 ghost use Rattle.rk_devices.specs.Ends.{told_end};
+ghost use Rattle.rk_devices.specs.Learnt.{HasDriven};
+ghost use Rattle.rk_devices.specs.Shown.{and_then};
 ghost use Rattle.rk_hall.specs.Seats.{negated};
 ghost use Rattle.rk_talk.specs.Stays.{Stays};
+ghost use Rattle.rk_child.specs.Learning.{idle_report, last_report};
 ghost use Rattle.rk_child.specs.Telling.{HasBegun, HasFinished};
 
 use rk_devices::{Clock, Course, Driven, Gate, Report};
@@ -13,8 +16,9 @@ use rk_talk::{Caller, Platform, Stage};
 
 /// Tells that no command was started for a launch.
 pub fn fail<P: Platform>(stage: &Stage<'_, P>, caller: &mut Caller<P>, launch: Launch<P::Names>)
-    ensures told { HasBegun launch Ran.Failed caller.old.seat caller.new.seat None }
+    ensures told { HasBegun P.Clock.tells launch Ran.Failed caller.old.seat caller.new.seat None }
     ensures stays { Stays caller.old.seat caller.new.seat }
+    ensures gate { P.Gate.story caller.new.gate ≡ P.Gate.story caller.old.gate }
 {
     let now = caller.clock.now();
     let Owed { value, receipt } = stage
@@ -34,6 +38,7 @@ pub fn spend<P: Platform>(
     launch: Option<Launch<P::Names>>,
 )
     ensures stays { Stays caller.old.seat caller.new.seat }
+    ensures gate { P.Gate.story caller.new.gate ≡ P.Gate.story caller.old.gate }
     ensures idle { launch ≡ None → caller.new.seat ≡ caller.old.seat }
 {
     if let Some(launch) = launch {
@@ -49,7 +54,9 @@ pub fn unstarted<P: Platform>(
     driven: Driven,
     os_error: Option<i32>,
 )
-    ensures { Stays caller.old.seat caller.new.seat }
+    ensures stays { Stays caller.old.seat caller.new.seat }
+    ensures gate { P.Gate.story caller.new.gate
+        ≡ and_then (P.Gate.story caller.old.gate) (HasDriven (idle_report launch.key (Some launch.subject) driven os_error) ∷ []) }
 {
     let report = Report {
         key: launch.key(),
@@ -58,7 +65,7 @@ pub fn unstarted<P: Platform>(
         course: Course::new(),
         os_error,
     };
-    stage.gate.driven(stage.rt, report);
+    caller.gate.driven(stage.rt, report);
     fail(stage, caller, launch);
 }
 
@@ -69,9 +76,10 @@ pub fn begin<P: Platform>(
     launch: Launch<P::Names>,
     ran: Ran,
 ) -> Option<Running<P::Names>>
-    ensures begins { HasBegun launch ran caller.old.seat caller.new.seat result }
+    ensures begins { HasBegun P.Clock.tells launch ran caller.old.seat caller.new.seat result }
     ensures token { IfSome result (λ r. r ≡ launch) }
     ensures stays { Stays caller.old.seat caller.new.seat }
+    ensures gate { P.Gate.story caller.new.gate ≡ P.Gate.story caller.old.gate }
 {
     let now = caller.clock.now();
     let Owed { value, receipt } = stage
@@ -91,9 +99,11 @@ pub fn finish<P: Platform>(
     course: Course,
     payload: Option<Payload>,
 ) -> Option<Launch<P::Names>>
-    ensures ends { HasFinished running (told_end driven) payload caller.old.seat caller.new.seat result }
+    ensures ends { HasFinished P.Clock.tells running (told_end driven) payload caller.old.seat caller.new.seat result }
     ensures token { IfSome result (λ l. l ≡ negated running) }
     ensures stays { Stays caller.old.seat caller.new.seat }
+    ensures gate { P.Gate.story caller.new.gate
+        ≡ and_then (P.Gate.story caller.old.gate) (HasDriven (last_report running.key running.subject driven course) ∷ []) }
 {
     let report = Report {
         key: running.key(),
@@ -102,7 +112,7 @@ pub fn finish<P: Platform>(
         course,
         os_error: None,
     };
-    stage.gate.driven(stage.rt, report);
+    caller.gate.driven(stage.rt, report);
     let (now, how) = (caller.clock.now(), driven.how());
     let Owed { value, receipt } = stage
         .halls

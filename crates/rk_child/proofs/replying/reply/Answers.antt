@@ -3,7 +3,7 @@ use Rattle.std.specs.Prelude.{is_ok}
 use Rattle.rk_talk.specs.Replies.{ReplyFramed}
 use Rattle.rk_child.specs.Replying.{EndsAsks}
 use Rattle.rk_child.proofs.Written.{framed_ends}
-use Rattle.rk_child.proofs.replying.is_said.Goals as goal
+use Rattle.rk_child.proofs.replying.reply.Goals as goal
 
 pub returns-in-Ok-clause-ends : goal.returns-in-Ok-clause-ends
 returns-in-Ok-clause-ends g c =
