@@ -22,9 +22,13 @@
 //! *A plain handler* has each ask answered in order, by the hall of its key. Its output is read only if no whole message is held; the message at the
 //! front is taken, asked, and replied to, before anything else passes. A reply that can't be written, a frame that none has, or an ask of which nothing
 //! can be said ends its asks: its input is closed, and what it still outputs is read and dropped. A child that tells what passes with it tells that and
-//! nothing else. The gate learns of each reply to it, whether one of its asks completed its key, and whether they ended at a length that no frame has. *A piped handler* is
-//! written the callout, and its output is the payload, where it has 1 to 32,767 bytes; that its input can't be written is passed over. One that has
-//! exited with 0 and without a payload is `NoPayload`.
+//! nothing else. *A piped handler* is written the callout, and its output is the payload, where it has 1 to 32,767 bytes; that its input can't be written
+//! is passed over. One that has exited with 0 and without a payload is `NoPayload`. The output of either is dropped only if its hall answered that it did
+//! not owe the start any more.
+//!
+//! *The gate* learns what became of each command, also of one that was not started, or whose hall did not owe its start. Of a handler it learns the start
+//! before, each reply to a plain one, what its asks have started, whether one of them completed its key, and whether they ended at a length that no frame
+//! has. Each turn is made at a moment that the clock may tell.
 //!
 //! What a run needs is made before its start: out of memory there ends it as a start that failed. Not promised: that a child ends, and what it says.
 //!
@@ -34,9 +38,9 @@
 //! handler. Around them, `command` has the command, `room` what is made before the start, `spent` what a hall learns of a launch, `replying` the
 //! replies, `making` whether a key was made, `ending` the wait and what is made of the output, and `driven` which of two ends is returned.
 //!
-//! In `specs/`, `Driving` says what is done with a launcher and what is returned, `Learning` what the gate learns, `Commands` what a command is, `Talk` what passes with a plain handler, and
-//! `Passing` with the child of a launch. `Replying` says what is to be said of a message, `Making` whether it made the key, `Turned` what one message comes
-//! to, and `Rooms` what is held of a stream.
+//! In `specs/`, `Driving` says what is done with a launcher and what is returned, `Commands` what a command is, `Talk` what passes with a plain handler,
+//! `Passing` with the child of a launch, and `Learning` what the gate learns. `Replying` says what is to be said of a message, `Making` whether it made the
+//! key, `Turned` what one message comes to, and `Rooms` what is held of a stream.
 #![tactic(auto)]
 
 mod asks;

@@ -1,6 +1,6 @@
 -- What is said of a message, and how it is told.
-use Rattle.rk_session.proofs.Words.{ℕ, List, [], ◌∷◌, refl, sym, ap, ◌∙◌, subst, Option, Some, None, Result, Ok, Err, SessionId, Errno, Enomem, DeviceFault}
-use Rattle.rk_session.proofs.Words.{and_then, and_more, Answer, HallNo, Noted, SeatShown, IsSettled, IsToWait, Saying, LacksFrame, ReplyFramed, TakesMemory}
+use Rattle.rk_session.proofs.Words.{ℕ, List, [], ◌∷◌, refl, sym, ap, ◌∙◌, subst, Option, Some, None, Result, Ok, Err, Errno, Enomem, DeviceFault}
+use Rattle.rk_session.proofs.Words.{and_then, and_more, Answer, HallNo, Noted, SeatShown, IsSettled, IsToWait, Saying, LacksFrame, ReplyFramed, TakesMemory, Scene}
 use Rattle.rk_session.proofs.Words.{reply_bytes, reply_of, refusal_settled, Happened, HasNoted, Said, WireShown, Notes, Writes, Speaks, ended}
 use Rattle.rk_session.proofs.Words.{IsNotCalled, IsNotOpened, IsRefused, IsShutOut, Refuses, told_in}
 use Rattle.rk_message.specs.declared.reply.Reply.TheVariants as reply
@@ -15,14 +15,14 @@ refused_settled (answer.Waiting k) is waits = is
 refused_settled (answer.Refused e) is waits = waits
 
 -- a client that was shut out waits for nothing
-pub shut_settled : (session : SessionId) (hall : HallNo) (old new : SeatShown) (s : Saying) → IsShutOut session hall old new s → IsSettled s
-shut_settled session hall old new s (IsNotCalled f refused is same) = refusal_settled f s is
-shut_settled session hall old new s (IsNotOpened now n called refuses stays alone) = at s refuses
+pub shut_settled : (scene : Scene) (hall : HallNo) (old new : SeatShown) (s : Saying) → IsShutOut scene hall old new s → IsSettled s
+shut_settled scene hall old new s (IsNotCalled f refused is same) = refusal_settled f s is
+shut_settled scene hall old new s (IsNotOpened now n at called refuses stays alone) = by_saying s refuses
   where
-    at : (x : Saying) → Refuses n (Some x) → IsSettled x
-    at (saying.Noted m) is = λ waits. refused_settled n.answer is.1 (subst (λ (r : Noted). IsToWait r.answer) is.0 waits)
-    at (saying.Short e) is = tt
-    at saying.Behind is = tt
+    by_saying : (x : Saying) → Refuses n (Some x) → IsSettled x
+    by_saying (saying.Noted m) is = λ waits. refused_settled n.answer is.1 (subst (λ (r : Noted). IsToWait r.answer) is.0 waits)
+    by_saying (saying.Short e) is = tt
+    by_saying saying.Behind is = tt
 
 -- an answer on which nobody waits lacks a frame only for lack of memory
 pub settled_takes : (a : Answer) → (IsToWait a → ⊥) → LacksFrame a → TakesMemory (reply_of a)

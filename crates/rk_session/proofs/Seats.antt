@@ -3,7 +3,7 @@ use Rattle.rk_session.proofs.Words.{◌≡◌, ◌≤◌, ◌<◌, ℕ, ◌+◌,
 use Rattle.rk_session.proofs.Words.{Opened, Answer, Saying, HasLaunch, IsCalled, IsToWait, HallNo, Zero, One, Two, Three, started, Noted, Lapse, PartShown}
 use Rattle.rk_session.proofs.Words.{SeatShown, TokenShown, part, with_part, after_call, without_client, opens, OwedSeen, Clients, Stays, SeesOn, clients_at}
 use Rattle.rk_session.proofs.Words.{with_one, without_one, none_started, call_stays, owed_stays, sees_part, stays_on, stays_same, HasGone, IsMoved, IsNotOpened}
-use Rattle.rk_session.proofs.Words.{IsOpened, IsRefused, Refuses, HasOpened, Leaves, Moves}
+use Rattle.rk_session.proofs.Words.{IsOpened, IsRefused, Refuses, HasOpened, Leaves, Moves, Scene}
 use Rattle.rk_machine.specs.declared.event.Answer.TheVariants as answer
 use Rattle.rk_record.specs.declared.told.ToldOf.TheVariants as told
 use Rattle.rk_talk.specs.declared.saying.Saying.TheVariants as saying
@@ -117,33 +117,33 @@ none_refused session (answer.Waiting k) is = absurd is
 none_refused session (answer.Refused e) is = refl
 
 -- an opening whose call gave this receipt
-pub opened_by : (session : SessionId) (h : HallNo) (now : ℕ) (old mid new : SeatShown) (r : Noted) (launch : Option TokenShown) (result : Option Saying)
-    → IsCalled h now (told.Opened session) (part h old) r → mid ≡ with_part h old (after_call (part h old) (Opened session) r)
-    → HasLaunch h r.answer launch → Stays mid new → (launch ≡ None → new ≡ mid) → Refuses r result → HasOpened session h old new result
-opened_by session h now old mid new r launch None called is has stays idle (reply, done) =
-    (now, r, called, (reply, done), idle (none_started h r.answer launch has (ap started done)) ∙ is)
-opened_by session h now old mid new r launch (Some (saying.Noted m)) called is has stays idle refuses = (
-  stays_on old mid new (call_stays h old mid (Opened session) r (none_refused session r.answer refuses.1) called.3 is) stays,
-  IsNotOpened now r called refuses (subst (λ s. Stays s new) is stays) (λ none. idle (none_started h r.answer launch has none) ∙ is),
+pub opened_by : (scene : Scene) (h : HallNo) (now : ℕ) (at : scene.tells now) (old mid new : SeatShown) (r : Noted) (launch : Option TokenShown) (result : Option Saying)
+    → IsCalled h now (told.Opened scene.session) (part h old) r → mid ≡ with_part h old (after_call (part h old) (Opened scene.session) r)
+    → HasLaunch h r.answer launch → Stays mid new → (launch ≡ None → new ≡ mid) → Refuses r result → HasOpened scene h old new result
+opened_by scene h now at old mid new r launch None called is has stays idle (reply, done) =
+    (now, at, r, called, (reply, done), idle (none_started h r.answer launch has (ap started done)) ∙ is)
+opened_by scene h now at old mid new r launch (Some (saying.Noted m)) called is has stays idle refuses = (
+  stays_on old mid new (call_stays h old mid (Opened scene.session) r (none_refused scene.session r.answer refuses.1) called.3 is) stays,
+  IsNotOpened now r at called refuses (subst (λ s. Stays s new) is stays) (λ none. idle (none_started h r.answer launch has none) ∙ is),
 )
-opened_by session h now old mid new r launch (Some (saying.Short e)) called is has stays idle refuses = absurd refuses
-opened_by session h now old mid new r launch (Some saying.Behind) called is has stays idle waits = (
-  stays_on old mid new (call_stays h old mid (Opened session) r (none_waits session r.answer waits) called.3 is) stays,
-  IsNotOpened now r called waits (subst (λ s. Stays s new) is stays) (λ none. idle (none_started h r.answer launch has none) ∙ is),
+opened_by scene h now at old mid new r launch (Some (saying.Short e)) called is has stays idle refuses = absurd refuses
+opened_by scene h now at old mid new r launch (Some saying.Behind) called is has stays idle waits = (
+  stays_on old mid new (call_stays h old mid (Opened scene.session) r (none_waits scene.session r.answer waits) called.3 is) stays,
+  IsNotOpened now r at called waits (subst (λ s. Stays s new) is stays) (λ none. idle (none_started h r.answer launch has none) ∙ is),
 )
 
 -- a client that was opened stands there
-pub opened_clients : (session : SessionId) (h : HallNo) (old new : SeatShown) → IsOpened session h old new
+pub opened_clients : (scene : Scene) (h : HallNo) (old new : SeatShown) → IsOpened scene h old new
     → (clients_at new ≡ with_one h (clients_at old)) × SeesOn old new
-opened_clients session h old new (now, n, called, (reply, done), is) = call_opens h old new (Opened session) n (ap (opens (Opened session)) done) called.3 is
+opened_clients scene h old new (now, at, n, called, (reply, done), is) = call_opens h old new (Opened scene.session) n (ap (opens (Opened scene.session)) done) called.3 is
 
 -- one that was reported gone does not
-pub left_clients : (session : SessionId) (h : HallNo) (old new : SeatShown) → HasGone session h old new → Leaves h old new
-left_clients session h old new (now, r, seen) = gone_leaves h now (Gone session) old new r seen
+pub left_clients : (scene : Scene) (h : HallNo) (old new : SeatShown) → HasGone scene h old new → Leaves h old new
+left_clients scene h old new (now, r, at, seen) = gone_leaves h now (Gone scene.session) old new r seen
 
 -- one that has moved stands there and not here
-pub moved_clients : (session : SessionId) (here to : HallNo) (old new : SeatShown) → IsMoved session here to old new → Moves here to old new
-moved_clients session here to old new (inl (is, same)) =
+pub moved_clients : (scene : Scene) (here to : HallNo) (old new : SeatShown) → IsMoved scene here to old new → Moves here to old new
+moved_clients scene here to old new (inl (is, same)) =
     subst (λ s. Moves here to old s) (sym same) (subst (λ h. Moves here h old old) (sym is) (stays_moves here old old (stays_same old)))
-moved_clients session here to old new (inr (another, mid, opened, gone)) =
-    moves_over here to old mid new (opened_clients session to old mid opened) (left_clients session here mid new gone)
+moved_clients scene here to old new (inr (another, mid, opened, gone)) =
+    moves_over here to old mid new (opened_clients scene to old mid opened) (left_clients scene here mid new gone)

@@ -1,7 +1,8 @@
 -- What is written and sent, and the count of a wire.
-use Rattle.rk_session.proofs.Words.{◌≡◌, ◌≤◌, ◌+◌, ℕ, List, inl, inr, refl, sym, ap, subst, ◌∙◌, arith, Bool, true, false, nat_lt, if◌then◌else◌, Result, Ok}
-use Rattle.rk_session.proofs.Words.{Err, false≢true, DeviceFault, Rose, most, raised, rose_from, rose_up, Noted, Counts, Notes, Sends, WireShown, Writes, Hears}
-use Rattle.rk_session.proofs.Words.{IsEndInTurns, Parts, Pushes, EndCounts, Served, Ended, NotOpened, ReadFault, WriteFault, Malformed, TurnsUsed, Behind}
+use Rattle.rk_session.proofs.Words.{◌≡◌, ◌≤◌, ◌+◌, ℕ, List, [], ◌∷◌, inl, inr, refl, sym, ap, subst, ◌∙◌, arith, Bool, true, false, nat_lt, if◌then◌else◌}
+use Rattle.rk_session.proofs.Words.{Option, Result, Ok, Err, false≢true, DeviceFault, Rose, most, raised, rose_from, rose_up, and_more, and_none, and_then}
+use Rattle.rk_session.proofs.Words.{SessionId, Noted, Learnt, Counts, Happened, NotSent, Sent, Notes, WireShown, Writes, Hears, Flushes}
+use Rattle.rk_session.proofs.Words.{IsEndInTurns, IsStopped, Parts, Pushes, EndCounts, Served, Ended, NotOpened, ReadFault, WriteFault, Malformed, TurnsUsed, Behind}
 
 -- where count and cut are as before
 same_counts : (old new : WireShown) → new.count ≡ old.count → new.cut ≡ old.cut → Counts old new
@@ -31,41 +32,90 @@ pub writes_counts : (r : Result Unit DeviceFault) (bytes : List ℕ) (old new : 
 writes_counts (Ok u) bytes old new (whole, is) = same_counts old new (ap (λ (w : WireShown). w.count) is) (ap (λ (w : WireShown). w.cut) is)
 writes_counts (Err e) bytes old new (rose, first, others, parts, is) = cut_counts old new rose (ap (λ (w : WireShown). w.cut) is)
 
-sends_counts : (r : Result Unit DeviceFault) (old new : WireShown) → Sends r old new → Counts old new
-sends_counts (Ok u) old new (whole, is) = same_counts old new (ap (λ (w : WireShown). w.count) is) (ap (λ (w : WireShown). w.cut) is)
-sends_counts (Err e) old new (rose, is) = cut_counts old new rose (ap (λ (w : WireShown). w.cut) is)
+-- so does a sending
+pub flush_counts : (session : SessionId) (r : Result Unit Served) (gate gate' : Option (List Learnt)) (old new : WireShown)
+    → Flushes session r gate gate' old new → Counts old new
+flush_counts session (Ok u) gate gate' old new (had, whole, kept, learned, is) =
+    same_counts old new (ap (λ (w : WireShown). w.count) is) (ap (λ (w : WireShown). w.cut) is)
+flush_counts session (Err WriteFault) gate gate' old new (same, rose, is) = cut_counts old new rose (ap (λ (w : WireShown). w.cut) is)
+flush_counts session (Err Ended) gate gate' old new none = absurd none
+flush_counts session (Err NotOpened) gate gate' old new none = absurd none
+flush_counts session (Err ReadFault) gate gate' old new none = absurd none
+flush_counts session (Err Malformed) gate gate' old new none = absurd none
+flush_counts session (Err TurnsUsed) gate gate' old new none = absurd none
+flush_counts session (Err Behind) gate gate' old new none = absurd none
+
+-- and reads nothing
+pub flush_reads : (session : SessionId) (r : Result Unit Served) (gate gate' : Option (List Learnt)) (old new : WireShown)
+    → Flushes session r gate gate' old new → new.reads ≡ old.reads
+flush_reads session (Ok u) gate gate' old new (had, whole, kept, learned, is) = ap (λ (w : WireShown). w.reads) is
+flush_reads session (Err WriteFault) gate gate' old new (same, rose, is) = ap (λ (w : WireShown). w.reads) is
+flush_reads session (Err Ended) gate gate' old new none = absurd none
+flush_reads session (Err NotOpened) gate gate' old new none = absurd none
+flush_reads session (Err ReadFault) gate gate' old new none = absurd none
+flush_reads session (Err Malformed) gate gate' old new none = absurd none
+flush_reads session (Err TurnsUsed) gate gate' old new none = absurd none
+flush_reads session (Err Behind) gate gate' old new none = absurd none
 
 -- whether it was sent or not, nothing is kept
-pub sends_kept : (r : Result Unit DeviceFault) (old new : WireShown) → Sends r old new → new.kept ≡ false
-sends_kept (Ok u) old new (whole, is) = ap (λ (w : WireShown). w.kept) is
-sends_kept (Err e) old new (rose, is) = ap (λ (w : WireShown). w.kept) is
+pub flush_kept : (session : SessionId) (r : Result Unit Served) (gate gate' : Option (List Learnt)) (old new : WireShown)
+    → Flushes session r gate gate' old new → new.kept ≡ false
+flush_kept session (Ok u) gate gate' old new (had, whole, kept, learned, is) = ap (λ (w : WireShown). w.kept) is
+flush_kept session (Err WriteFault) gate gate' old new (same, rose, is) = ap (λ (w : WireShown). w.kept) is
+flush_kept session (Err Ended) gate gate' old new none = absurd none
+flush_kept session (Err NotOpened) gate gate' old new none = absurd none
+flush_kept session (Err ReadFault) gate gate' old new none = absurd none
+flush_kept session (Err Malformed) gate gate' old new none = absurd none
+flush_kept session (Err TurnsUsed) gate gate' old new none = absurd none
+flush_kept session (Err Behind) gate gate' old new none = absurd none
 
-pub sends_pushes : (r : Result Unit DeviceFault) (old new : WireShown) → Sends r old new → Pushes old new
-sends_pushes (Ok u) old new (whole, is) = record {
+-- what was written was sent
+pub flush_pushes : (session : SessionId) (gate gate' : Option (List Learnt)) (old new : WireShown) (f : Flushes session (Ok tt) gate gate' old new)
+    → Pushes (Sent f.0 ∷ []) old new
+flush_pushes session gate gate' old new (had, whole, kept, learned, is) = record {
   story = ap (λ (w : WireShown). w.story) is;
   reads = ap (λ (w : WireShown). w.reads) is;
-  counts = sends_counts (Ok u) old new (whole, is);
+  counts = flush_counts session (Ok tt) gate gate' old new (had, whole, kept, learned, is);
 }
-sends_pushes (Err e) old new (rose, is) = record {
+
+-- or could not be
+pub failed_pushes : (session : SessionId) (gate gate' : Option (List Learnt)) (old new : WireShown) → Flushes session (Err WriteFault) gate gate' old new
+    → Pushes (NotSent ∷ []) old new
+failed_pushes session gate gate' old new (same, rose, is) = record {
   story = ap (λ (w : WireShown). w.story) is;
   reads = ap (λ (w : WireShown). w.reads) is;
-  counts = sends_counts (Err e) old new (rose, is);
+  counts = flush_counts session (Err WriteFault) gate gate' old new (same, rose, is);
+}
+
+-- then nothing else is done
+pub failed_stops : (session : SessionId) (gate gate' : Option (List Learnt)) (old new : WireShown) → Flushes session (Err WriteFault) gate gate' old new
+    → IsStopped old new
+failed_stops session gate gate' old new (same, rose, is) = (ap (λ (w : WireShown). w.cut) is, ap (λ (w : WireShown). w.story) is)
+
+-- one sending, and then others
+pub pushes_then : (x : Happened) (more : List Happened) (a b c : WireShown) → Pushes (x ∷ []) a b → Pushes more b c → Pushes (x ∷ more) a c
+pushes_then x more a b c f g = record {
+  story = g.story ∙ ap (λ t. and_then t more) f.story ∙ and_more a.story (x ∷ []) more;
+  reads = g.reads ∙ f.reads;
+  counts = counts_then a b c f.counts g.counts;
 }
 
 -- nothing had to be sent
-pub pushes_same : (w : WireShown) → Pushes w w
-pushes_same w = record { story = refl; reads = refl; counts = counts_same w }
+pub pushes_same : (w : WireShown) → Pushes [] w w
+pushes_same w = record { story = and_none w.story; reads = refl; counts = counts_same w }
 
 -- the count where a session ends at a read
-pub hears_ends : (served : Served) (buf : List ℕ) (begun old new : WireShown) → Counts begun old → Hears (Err served) buf old new
-    → EndCounts served begun.count new.count
-hears_ends Ended buf begun old new counts (whole, is) = ap (λ (w : WireShown). w.count) is ∙ (counts.whole whole).1
-hears_ends ReadFault buf begun old new counts (whole, rose, is) = rose_from begun.count old.count new.count counts.least rose
-hears_ends WriteFault buf begun old new counts (rose, is) = rose_from begun.count old.count new.count counts.least rose
-hears_ends NotOpened buf begun old new counts none = absurd none
-hears_ends Malformed buf begun old new counts none = absurd none
-hears_ends TurnsUsed buf begun old new counts none = absurd none
-hears_ends Behind buf begun old new counts none = absurd none
+pub hears_ends : (session : SessionId) (served : Served) (buf : List ℕ) (gate gate' : Option (List Learnt)) (begun old new : WireShown) → Counts begun old
+    → Hears session (Err served) buf gate gate' old new → EndCounts served begun.count new.count
+hears_ends session Ended buf gate gate' begun old new counts (mid, (had, whole, kept, learned, sent), read) =
+    ap (λ (w : WireShown). w.count) read ∙ ap (λ (w : WireShown). w.count) sent ∙ (counts.whole whole).1
+hears_ends session ReadFault buf gate gate' begun old new counts (mid, sent, e, (rose, read)) =
+    rose_from begun.count mid.count new.count (counts_then begun old mid counts (flush_counts session (Ok tt) gate gate' old mid sent)).least rose
+hears_ends session WriteFault buf gate gate' begun old new counts (same, rose, is) = rose_from begun.count old.count new.count counts.least rose
+hears_ends session NotOpened buf gate gate' begun old new counts none = absurd none
+hears_ends session Malformed buf gate gate' begun old new counts none = absurd none
+hears_ends session TurnsUsed buf gate gate' begun old new counts none = absurd none
+hears_ends session Behind buf gate gate' begun old new counts none = absurd none
 
 -- an end at which the session parts: at a message, or with its last read
 abbrev pub IsToPart : Served → WireShown → Type 0
@@ -96,23 +146,25 @@ whole_ends ReadFault w before after is whole same = absurd is
 whole_ends NotOpened w before after is whole same = absurd is
 
 -- the count where a session parts
-pub parts_ends : (served told : Served) (begun old new : WireShown) → IsToPart served old → Counts begun old → Parts served told old new
-    → EndCounts told begun.count new.count
-parts_ends served told begun old new is counts (inl (same, whole, sent)) =
+pub parts_ends : (session : SessionId) (served told : Served) (gate gate' : Option (List Learnt)) (begun old new : WireShown) → IsToPart served old
+    → Counts begun old → Parts session served told gate gate' old new → EndCounts told begun.count new.count
+parts_ends session served told gate gate' begun old new is counts (inl (same, (had, whole, kept, learned, sent))) =
     subst (λ s. EndCounts s begun.count new.count) (sym same)
     (whole_ends served old begun.count new.count is whole (ap (λ (w : WireShown). w.count) sent ∙ (counts.whole whole).1))
-parts_ends served told begun old new is counts (inr (fault, rose, cut)) =
+parts_ends session served told gate gate' begun old new is counts (inr (fault, (same, rose, cut))) =
     subst (λ s. EndCounts s begun.count new.count) (sym fault) (rose_from begun.count old.count new.count counts.least rose)
 
 -- after the parting the wire keeps nothing back
-pub parts_kept : (served told : Served) (old new : WireShown) → Parts served told old new → new.kept ≡ false
-parts_kept served told old new (inl (same, whole, sent)) = ap (λ (w : WireShown). w.kept) sent
-parts_kept served told old new (inr (fault, rose, cut)) = ap (λ (w : WireShown). w.kept) cut
+pub parts_kept : (session : SessionId) (served told : Served) (gate gate' : Option (List Learnt)) (old new : WireShown)
+    → Parts session served told gate gate' old new → new.kept ≡ false
+parts_kept session served told gate gate' old new (inl (same, sent)) = flush_kept session (Ok tt) gate gate' old new sent
+parts_kept session served told gate gate' old new (inr (fault, cut)) = flush_kept session (Err WriteFault) gate gate' old new cut
 
 -- parting reads nothing
-pub parts_reads : (served told : Served) (old new : WireShown) → Parts served told old new → new.reads ≡ old.reads
-parts_reads served told old new (inl (same, whole, sent)) = ap (λ (w : WireShown). w.reads) sent
-parts_reads served told old new (inr (fault, rose, cut)) = ap (λ (w : WireShown). w.reads) cut
+pub parts_reads : (session : SessionId) (served told : Served) (gate gate' : Option (List Learnt)) (old new : WireShown)
+    → Parts session served told gate gate' old new → new.reads ≡ old.reads
+parts_reads session served told gate gate' old new (inl (same, sent)) = flush_reads session (Ok tt) gate gate' old new sent
+parts_reads session served told gate gate' old new (inr (fault, cut)) = flush_reads session (Err WriteFault) gate gate' old new cut
 
 more_reads : (n : ℕ) → raised n ≤ n + 1
 more_reads n = by_test (nat_lt n most)
@@ -125,38 +177,51 @@ one_more : (old new : ℕ) → new ≡ raised old → new ≤ old + 1
 one_more old new is = subst (λ n. n ≤ old + 1) (sym is) (more_reads old)
 
 -- at most one read if a session ends at one
-pub hears_reads : (served : Served) (buf : List ℕ) (old new : WireShown) → Hears (Err served) buf old new → new.reads ≤ old.reads + 1
-hears_reads Ended buf old new (whole, is) = one_more old.reads new.reads (ap (λ (w : WireShown). w.reads) is)
-hears_reads ReadFault buf old new (whole, rose, is) = one_more old.reads new.reads (ap (λ (w : WireShown). w.reads) is)
-hears_reads WriteFault buf old new (rose, is) = let same : new.reads ≡ old.reads = ap (λ (w : WireShown). w.reads) is in omega (arith, same)
-hears_reads NotOpened buf old new none = absurd none
-hears_reads Malformed buf old new none = absurd none
-hears_reads TurnsUsed buf old new none = absurd none
-hears_reads Behind buf old new none = absurd none
+pub hears_reads : (session : SessionId) (served : Served) (buf : List ℕ) (gate gate' : Option (List Learnt)) (old new : WireShown)
+    → Hears session (Err served) buf gate gate' old new → new.reads ≤ old.reads + 1
+hears_reads session Ended buf gate gate' old new (mid, sent, read) =
+    one_more old.reads new.reads (ap (λ (w : WireShown). w.reads) read ∙ ap raised (flush_reads session (Ok tt) gate gate' old mid sent))
+hears_reads session ReadFault buf gate gate' old new (mid, sent, e, (rose, read)) =
+    one_more old.reads new.reads (ap (λ (w : WireShown). w.reads) read ∙ ap raised (flush_reads session (Ok tt) gate gate' old mid sent))
+hears_reads session WriteFault buf gate gate' old new cut =
+    let same : new.reads ≡ old.reads = flush_reads session (Err WriteFault) gate gate' old new cut in omega (arith, same)
+hears_reads session NotOpened buf gate gate' old new none = absurd none
+hears_reads session Malformed buf gate gate' old new none = absurd none
+hears_reads session TurnsUsed buf gate gate' old new none = absurd none
+hears_reads session Behind buf gate gate' old new none = absurd none
 
 -- a piece that came leaves the count as it is
-pub hears_counts : (n : ℕ) (buf : List ℕ) (old new : WireShown) → Hears (Ok n) buf old new → Counts old new
-hears_counts n buf old new (some, whole, is) = same_counts old new (ap (λ (w : WireShown). w.count) is) (ap (λ (w : WireShown). w.cut) is)
+pub hears_counts : (session : SessionId) (n : ℕ) (buf : List ℕ) (gate gate' : Option (List Learnt)) (old new : WireShown)
+    → Hears session (Ok n) buf gate gate' old new → Counts old new
+hears_counts session n buf gate gate' old new (some, mid, sent, read) =
+    counts_then old mid new (flush_counts session (Ok tt) gate gate' old mid sent)
+    (same_counts mid new (ap (λ (w : WireShown). w.count) read) (ap (λ (w : WireShown). w.cut) read))
 
 abbrev IsWriteFault : Served → Type 0
 IsWriteFault WriteFault = Unit {0}
 IsWriteFault _ = ⊥
 
 -- and is one read more
-pub hears_more : (n : ℕ) (buf : List ℕ) (old new : WireShown) → Hears (Ok n) buf old new → new.reads ≡ raised old.reads
-hears_more n buf old new (some, whole, is) = ap (λ (w : WireShown). w.reads) is
+pub hears_more : (session : SessionId) (n : ℕ) (buf : List ℕ) (gate gate' : Option (List Learnt)) (old new : WireShown)
+    → Hears session (Ok n) buf gate gate' old new → new.reads ≡ raised old.reads
+hears_more session n buf gate gate' old new (some, mid, sent, read) =
+    ap (λ (w : WireShown). w.reads) read ∙ ap raised (flush_reads session (Ok tt) gate gate' old mid sent)
 
 -- a session that ended at a message has not used its reads up
-pub parts_unused : (served told : Served) (old new : WireShown) → IsEndInTurns served old → Parts served told old new → told ≡ TurnsUsed → ⊥
-parts_unused served told old new is (inl (same, whole, sent)) used = subst (λ s. IsEndInTurns s old) (sym same ∙ used) is
-parts_unused served told old new is (inr (fault, rose, cut)) used = subst IsWriteFault (sym fault ∙ used) tt
+pub parts_unused : (session : SessionId) (served told : Served) (gate gate' : Option (List Learnt)) (old new : WireShown) → IsEndInTurns served old
+    → Parts session served told gate gate' old new → told ≡ TurnsUsed → ⊥
+parts_unused session served told gate gate' old new is (inl (same, sent)) used = subst (λ s. IsEndInTurns s old) (sym same ∙ used) is
+parts_unused session served told gate gate' old new is (inr (fault, cut)) used = subst IsWriteFault (sym fault ∙ used) tt
 
 -- after a read that ended the session the wire keeps nothing back
-pub hears_kept : (served : Served) (buf : List ℕ) (old new : WireShown) → Hears (Err served) buf old new → new.kept ≡ false
-hears_kept Ended buf old new (whole, is) = ap (λ (w : WireShown). w.kept) is
-hears_kept ReadFault buf old new (whole, rose, is) = ap (λ (w : WireShown). w.kept) is
-hears_kept WriteFault buf old new (rose, is) = ap (λ (w : WireShown). w.kept) is
-hears_kept NotOpened buf old new none = absurd none
-hears_kept Malformed buf old new none = absurd none
-hears_kept TurnsUsed buf old new none = absurd none
-hears_kept Behind buf old new none = absurd none
+pub hears_kept : (session : SessionId) (served : Served) (buf : List ℕ) (gate gate' : Option (List Learnt)) (old new : WireShown)
+    → Hears session (Err served) buf gate gate' old new → new.kept ≡ false
+hears_kept session Ended buf gate gate' old new (mid, sent, read) =
+    ap (λ (w : WireShown). w.kept) read ∙ flush_kept session (Ok tt) gate gate' old mid sent
+hears_kept session ReadFault buf gate gate' old new (mid, sent, e, (rose, read)) =
+    ap (λ (w : WireShown). w.kept) read ∙ flush_kept session (Ok tt) gate gate' old mid sent
+hears_kept session WriteFault buf gate gate' old new cut = flush_kept session (Err WriteFault) gate gate' old new cut
+hears_kept session NotOpened buf gate gate' old new none = absurd none
+hears_kept session Malformed buf gate gate' old new none = absurd none
+hears_kept session TurnsUsed buf gate gate' old new none = absurd none
+hears_kept session Behind buf gate gate' old new none = absurd none

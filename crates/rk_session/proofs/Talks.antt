@@ -1,121 +1,143 @@
 -- A talk, message by message.
 use Rattle.rk_session.proofs.Words.{◌≡◌, ◌≢◌, inl, inr, ℕ, ◌<◌, ◌≤◌, ◌+◌, List, [], ◌∷◌, ◌++◌, length, refl, sym, ap, ◌∙◌, subst, arith, Option, Some, Ok, Err}
-use Rattle.rk_session.proofs.Words.{Bool, true, false, take, nat_lt, if◌then◌else◌, nat_tests, length-take-le, SessionId, TakesBody, IsPartial, HasFault}
-use Rattle.rk_session.proofs.Words.{Unread, SeatShown, reply_bytes, most, raised, raised_by, and_then, takes_fewer, Happened, Heard, WireShown, Served, Ended}
-use Rattle.rk_session.proofs.Words.{NotOpened, ReadFault, WriteFault, Malformed, TurnsUsed, Behind, Says, Standing, at_first, standing_of, Begun, Ends, Turn}
-use Rattle.rk_session.proofs.Words.{Talking, begins, hears, turns, told_in, Talked, EndsHere, GoesOn, Hears, IsEndInTurns, Parts, TakesAll, TakesOne, TurnEnds}
+use Rattle.rk_session.proofs.Words.{Result, Bool, true, false, take, nat_lt, if◌then◌else◌, nat_tests, length-take-le, false≢true, SessionId, TakesBody, IsPartial}
+use Rattle.rk_session.proofs.Words.{HasFault, Unread, SeatShown, reply_bytes, most, raised, raised_by, and_then, and_more, takes_fewer, Happened, Heard, NotSent, Sent}
+use Rattle.rk_session.proofs.Words.{WireShown, Served, Ended, NotOpened, ReadFault, WriteFault, Malformed, TurnsUsed, Behind, Says, Standing, at_first, sends}
+use Rattle.rk_session.proofs.Words.{standing_of, Begun, Ends, Turn, Talking, begins, hears, turns, told_in, Talked, IsToRead, EndsHere, GoesOn, Hears, IsEndInTurns}
+use Rattle.rk_session.proofs.Words.{Parts, Stops, TakesAll, TakesOne, TurnEnds, Learnt, LauncherShown, Means, Scene, gate_after, means_of, Place}
+use Rattle.rk_session.proofs.Words.{Saying, Speaks}
 use Rattle.rk_session.proofs.Sendings.{IsToPart}
 
 -- what a wire tells, with more
 story_then : (story : Option (List Happened)) (s more : List Happened) → story ≡ Some s → and_then story more ≡ Some (s ++ more)
 story_then story s more is = ap (λ x. and_then x more) is
 
+-- with more, and more again
+story_more : (old new : Option (List Happened)) (s x y : List Happened) → old ≡ Some s → new ≡ and_then (and_then old x) y → new ≡ Some (s ++ (x ++ y))
+story_more old new s x y is told = told ∙ and_more old x y ∙ story_then old s (x ++ y) is
+
 -- where nothing happened and nothing was taken
-pub goes_nowhere : (session : SessionId) (old new : WireShown) (held held' : List ℕ) (from to : Standing) → new ≡ old → held' ≡ held → to ≡ from
-    → GoesOn session old held from new held' to
-goes_nowhere session old new held held' from to same kept stayed begun story is t = (
+pub goes_nowhere : (scene : Scene) (old new : WireShown) (held held' : List ℕ) (from to : Standing) → new ≡ old → held' ≡ held → to ≡ from
+    → GoesOn scene old held from new held' to
+goes_nowhere scene old new held held' from to same kept stayed begun story is t = (
   story,
   ap (λ (w : WireShown). w.story) same ∙ is,
-  subst (Talking session begun story held') (sym stayed) (subst (λ h. Talking session begun story h from) (sym kept) t),
+  subst (Talking scene begun story held') (sym stayed) (subst (λ h. Talking scene begun story h from) (sym kept) t),
 )
 
 -- one after the other
-pub goes_then : (session : SessionId) (a b c : WireShown) (x y z : List ℕ) (p q r : Standing) → GoesOn session a x p b y q → GoesOn session b y q c z r
-    → GoesOn session a x p c z r
-goes_then session a b c x y z p q r f g begun story is t = let one = f begun story is t in g begun one.0 one.1 one.2
+pub goes_then : (scene : Scene) (a b c : WireShown) (x y z : List ℕ) (p q r : Standing) → GoesOn scene a x p b y q → GoesOn scene b y q c z r
+    → GoesOn scene a x p c z r
+goes_then scene a b c x y z p q r f g begun story is t = let one = f begun story is t in g begun one.0 one.1 one.2
 
 -- and then the end
-pub ends_then : (session : SessionId) (served : Served) (a b c : WireShown) (x y : List ℕ) (p q last : Standing) → GoesOn session a x p b y q
-    → EndsHere session served b y q c last → EndsHere session served a x p c last
-ends_then session served a b c x y p q last f g begun story is t = let one = f begun story is t in g begun one.0 one.1 one.2
+pub ends_then : (scene : Scene) (served : Served) (a b c : WireShown) (x y : List ℕ) (p q last : Standing) → GoesOn scene a x p b y q
+    → EndsHere scene served b y q c last → EndsHere scene served a x p c last
+ends_then scene served a b c x y p q last f g begun story is t = let one = f begun story is t in g begun one.0 one.1 one.2
+
+abbrev IsWritten : Result Unit Served → Type 0
+IsWritten (Ok u) = Unit {0}
+IsWritten (Err e) = ⊥
 
 -- one message more, with its reply
-pub turn_goes : (session : SessionId) (body : List ℕ) (old new : WireShown) (held held' : List ℕ) (from to : Standing) → TakesBody body held held'
-    → TurnEnds session from body to (Ok tt) old new → GoesOn session old held from new held' to
-turn_goes session body old new held held' from to takes (s, says, (note, r, tells, is)) begun story told t =
+pub turn_goes : (scene : Scene) (body : List ℕ) (old new : WireShown) (held held' : List ℕ) (from to : Standing) → TakesBody body held held'
+    → TurnEnds scene from body to (Ok tt) old new → GoesOn scene old held from new held' to
+turn_goes scene body old new held held' from to takes (inl (sent, s, says, (note, r, tells, is))) begun story told t =
     let one : Turn = record { body = body; note = note; reply = r } in (
-      story ++ told_in note (reply_bytes r),
-      is ∙ story_then old.story story (told_in note (reply_bytes r)) told,
-      turns session begun story held' one from to (subst (λ h. Talking session begun story h from) takes.front t) (takes.is_body, s, says, tells),
+      story ++ (sent ++ told_in note (reply_bytes r)),
+      story_more old.story new.story story sent (told_in note (reply_bytes r)) told is,
+      turns story held' one sent from to (subst (λ h. Talking scene begun story h from) takes.front t) (takes.is_body, s, says, tells),
     )
+turn_goes scene body old new held held' from to takes (inr (failed, same, stopped)) begun story told t = absurd (subst IsWritten failed tt)
 
--- the end at a message
-pub turn_ends : (session : SessionId) (body : List ℕ) (served : Served) (old new : WireShown) (held held' : List ℕ) (from to : Standing)
-    → TakesBody body held held' → TurnEnds session from body to (Err served) old new
-    → IsEndInTurns served new × EndsHere session served old held from new to
-turn_ends session body WriteFault old new held held' from to takes (s, says, (note, r, first, others, tells, parts, cut, is)) = (
+-- the end at a message that was asked
+said_ends : (scene : Scene) (body : List ℕ) (served : Served) (old new : WireShown) (held held' : List ℕ) (from to : Standing) → TakesBody body held held'
+    → (x : (sent : List Happened) × (s : Saying) × Says scene from body sent s to × Speaks s (Err served) (and_then old.story sent) new)
+    → IsEndInTurns served new × EndsHere scene served old held from new to
+said_ends scene body WriteFault old new held held' from to takes (sent, s, says, (note, r, first, others, tells, parts, cut, is)) = (
   cut,
   λ begun story told t.
       let one : Turn = record { body = body; note = note; reply = r } in (
-        story ++ told_in note first,
-        is ∙ story_then old.story story (told_in note first) told,
+        story ++ (sent ++ told_in note first),
+        story_more old.story new.story story sent (told_in note first) told is,
         inl (
           story,
           one,
+          sent,
           from,
           held',
           first,
           others,
-          subst (λ h. Talking session begun story h from) takes.front t,
+          subst (λ h. Talking scene begun story h from) takes.front t,
           (takes.is_body, s, says, tells),
           parts,
           refl,
         ),
       ),
 )
-turn_ends session body Behind old new held held' from to takes (s, says, (none, is)) = (
+said_ends scene body Behind old new held held' from to takes (sent, s, says, (none, is)) = (
   tt,
   λ begun story told t. (
-    story,
-    is ∙ told,
+    story ++ sent,
+    is ∙ story_then old.story story sent told,
     (
+      story,
       body,
       held',
+      sent,
       from,
-      subst (λ h. Talking session begun story h from) takes.front t,
+      subst (λ h. Talking scene begun story h from) takes.front t,
       takes.is_body,
-      subst (λ x. Says session from body x to) none says,
+      subst (λ x. Says scene from body sent x to) none says,
+      refl,
     ),
   ),
 )
-turn_ends session body Ended old new held held' from to takes (s, says, none) = absurd none
-turn_ends session body ReadFault old new held held' from to takes (s, says, none) = absurd none
-turn_ends session body Malformed old new held held' from to takes (s, says, none) = absurd none
-turn_ends session body TurnsUsed old new held held' from to takes (s, says, none) = absurd none
-turn_ends session body NotOpened old new held held' from to takes (s, says, none) = absurd none
+said_ends scene body Ended old new held held' from to takes (sent, s, says, none) = absurd none
+said_ends scene body ReadFault old new held held' from to takes (sent, s, says, none) = absurd none
+said_ends scene body Malformed old new held held' from to takes (sent, s, says, none) = absurd none
+said_ends scene body TurnsUsed old new held held' from to takes (sent, s, says, none) = absurd none
+said_ends scene body NotOpened old new held held' from to takes (sent, s, says, none) = absurd none
 
--- the end at a length that no frame has
-pub malformed_ends : (session : SessionId) (old new : WireShown) (held : List ℕ) (from : Standing) → HasFault held → new ≡ old
-    → IsEndInTurns Malformed new × EndsHere session Malformed old held from new from
-malformed_ends session old new held from bad same =
-    (tt, λ begun story told t. (story, ap (λ (w : WireShown). w.story) same ∙ told, (held, t, bad)))
+abbrev fault_in : Result Unit Served → Served
+fault_in (Ok u) = Ended
+fault_in (Err e) = e
 
--- what a session tells since it began, with this seat: how far it has come, what it holds, and how its client stands
-abbrev pub Stands : SessionId → SeatShown → WireShown → WireShown → List ℕ → Standing → Type 0
-Stands session seat begun now held standing = (first : List Happened) → begun.story ≡ Some first → (story : List Happened) × (now.story ≡ Some story) ×
-    Talking session (record { story = first; seat = seat }) story held standing
-
--- a connection on which nothing happened is at the beginning of its talk
-pub stands_first : (session : SessionId) (seat : SeatShown) (w : WireShown) → Stands session seat w w [] (standing_of at_first seat)
-stands_first session seat w first is = (first, is, begins session (record { story = first; seat = seat }))
-
--- more bytes came
-stands_heard : (session : SessionId) (seat : SeatShown) (begun old new : WireShown) (held held' piece : List ℕ) (standing : Standing)
-    → Stands session seat begun old held standing → IsPartial held → piece ≢ [] → new.story ≡ and_then old.story (Heard piece ∷ []) → held' ≡ held ++ piece
-    → Stands session seat begun new held' standing
-stands_heard session seat begun old new held held' piece standing s none some is fed first begins_so =
-    let one = s first begins_so in
-    let start : Begun = record { story = first; seat = seat } in (
-      one.0 ++ Heard piece ∷ [],
-      is ∙ story_then old.story one.0 (Heard piece ∷ []) one.1,
-      subst (λ h. Talking session start (one.0 ++ Heard piece ∷ []) h standing) (sym fed) (hears session start one.0 held piece standing one.2 none some),
+-- the end at a message
+pub turn_ends : (scene : Scene) (body : List ℕ) (served : Served) (old new : WireShown) (held held' : List ℕ) (from to : Standing)
+    → TakesBody body held held' → TurnEnds scene from body to (Err served) old new
+    → IsEndInTurns served new × EndsHere scene served old held from new to
+turn_ends scene body served old new held held' from to takes (inl said) = said_ends scene body served old new held held' from to takes said
+turn_ends scene body served old new held held' from to takes (inr (failed, same, (cut, is))) =
+    subst (λ x. IsEndInTurns x new × EndsHere scene x old held from new to) (sym (ap fault_in failed)) (
+      cut,
+      λ begun story told t. (
+        story ++ NotSent ∷ [],
+        is ∙ story_then old.story story (NotSent ∷ []) told,
+        inr (story, held, subst (Talking scene begun story held) (sym same) t, refl),
+      ),
     )
 
+-- the end at a length that no frame has
+pub malformed_ends : (scene : Scene) (old new : WireShown) (held : List ℕ) (from : Standing) → HasFault held → new ≡ old
+    → IsEndInTurns Malformed new × EndsHere scene Malformed old held from new from
+malformed_ends scene old new held from bad same =
+    (tt, λ begun story told t. (story, ap (λ (w : WireShown). w.story) same ∙ told, (held, t, bad)))
+
+-- what a session tells since it began, with this seat and these means: how far it has come, what it holds, and how its client stands
+abbrev pub Stands : Scene → SeatShown → Means → WireShown → WireShown → List ℕ → Standing → Type 0
+Stands scene seat means begun now held standing = (first : List Happened) → begun.story ≡ Some first → (story : List Happened) × (now.story ≡ Some story) ×
+    Talking scene (record { story = first; seat = seat; means = means }) story held standing
+
+-- a connection on which nothing happened is at the beginning of its talk
+pub stands_first : (scene : Scene) (seat : SeatShown) (means : Means) (w : WireShown) → Stands scene seat means w w [] (standing_of at_first seat means)
+stands_first scene seat means w first is = (first, is, begins)
+
 -- messages got their replies
-pub stands_on : (session : SessionId) (seat : SeatShown) (begun old new : WireShown) (held held' : List ℕ) (from to : Standing)
-    → Stands session seat begun old held from → GoesOn session old held from new held' to → Stands session seat begun new held' to
-stands_on session seat begun old new held held' from to s goes first is =
-    let one = s first is in goes (record { story = first; seat = seat }) one.0 one.1 one.2
+pub stands_on : (scene : Scene) (seat : SeatShown) (means : Means) (begun old new : WireShown) (held held' : List ℕ) (from to : Standing)
+    → Stands scene seat means begun old held from → GoesOn scene old held from new held' to → Stands scene seat means begun new held' to
+stands_on scene seat means begun old new held held' from to s goes first is =
+    let one = s first is in goes (record { story = first; seat = seat; means = means }) one.0 one.1 one.2
 
 -- some bytes of a buffer are not none
 some_taken : (n size : ℕ) (buf : List ℕ) → n ≢ 0 → n ≤ size → length buf ≡ size → take n buf ≢ []
@@ -123,90 +145,167 @@ some_taken n size buf some le same none =
     let taken : length (take n buf) ≡ n = length-take-le n buf (subst (λ m. n ≤ m) (sym same) le) in
     some (sym taken ∙ ap length none)
 
--- a piece came
-pub stands_read : (session : SessionId) (seat : SeatShown) (begun old mid : WireShown) (held held' buf : List ℕ) (standing : Standing) (n size : ℕ)
-    → Stands session seat begun old held standing → IsPartial held → n ≤ size → length buf ≡ size → Hears (Ok n) buf old mid
-    → held' ≡ held ++ take n buf → Stands session seat begun mid held' standing
-stands_read session seat begun old mid held held' buf standing n size s none le same (some, whole, read) fed =
-    stands_heard session seat begun old mid held held' (take n buf) standing s none (some_taken n size buf some le same)
-    (ap (λ (w : WireShown). w.story) read) fed
+module _ (scene : Scene) (seat : SeatShown) (means : Means) (begun old new : WireShown) (place : Place) (now : SeatShown) (launcher : LauncherShown) where
+  -- a client that stands here, whose gate has learned this
+  abbrev here : Option (List Learnt) → Standing
+  here gate = standing_of place now (means_of launcher gate)
 
--- the end after them
-pub stands_ends : (session : SessionId) (served : Served) (seat : SeatShown) (last : Standing) (begun old new : WireShown) (held : List ℕ) (standing : Standing)
-    → Stands session seat begun old held standing → EndsHere session served old held standing new last → Talked session served seat last begun new
-stands_ends session served seat last begun old new held standing s ends first is =
-    let one = s first is in ends (record { story = first; seat = seat }) one.0 one.1 one.2
+  -- a piece came
+  pub stands_read : (gate gate' : Option (List Learnt)) (held held' buf : List ℕ) (n size : ℕ) → Stands scene seat means begun old held (here gate)
+      → IsPartial held → n ≤ size → length buf ≡ size → Hears scene.session (Ok n) buf gate gate' old new → held' ≡ held ++ take n buf
+      → Stands scene seat means begun new held' (here gate')
+  stands_read gate gate' held held' buf n size s none le same (some, mid, (had, whole, kept, learned, sent), read) fed first is =
+      let one = s first is in
+      let start : Begun = record { story = first; seat = seat; means = means } in
+      let piece : List ℕ = take n buf in
+      let story : List Happened = one.0 ++ Sent had ∷ Heard piece ∷ [] in (
+        story,
+        story_more old.story new.story one.0 (Sent had ∷ []) (Heard piece ∷ []) one.1
+            (ap (λ (w : WireShown). w.story) read ∙ ap (λ (w : WireShown). and_then w.story (Heard piece ∷ [])) sent),
+        subst (λ g. Talking scene start story held' (here g)) (sym learned)
+            (subst (λ h. Talking scene start story h (sends scene had (here gate))) (sym fed)
+            (hears one.0 held piece had (here gate) one.2 none (some_taken n size buf some le same))),
+      )
+
+  -- the end at a read: of the input; or the read failed; or what was written could not be sent before it
+  pub hears_talked : (served : Served) (gate gate' : Option (List Learnt)) (held buf : List ℕ) → Stands scene seat means begun old held (here gate)
+      → IsPartial held → Hears scene.session (Err served) buf gate gate' old new → Talked scene served seat means (here gate') begun new
+  hears_talked Ended gate gate' held buf s none (mid, (had, whole, kept, learned, sent), read) first is =
+      let one = s first is in (
+        (one.0 ++ Sent had ∷ []) ++ Heard [] ∷ [],
+        ap (λ (w : WireShown). w.story) read ∙ ap (λ (w : WireShown). and_then w.story (Heard [] ∷ [])) sent
+            ∙ ap (λ t. and_then t (Heard [] ∷ [])) (story_then old.story one.0 (Sent had ∷ []) one.1),
+        (one.0 ++ Sent had ∷ [], (one.0, had, here gate, (held, one.2, none), ap here learned, refl), refl),
+      )
+  hears_talked ReadFault gate gate' held buf s none (mid, (had, whole, kept, learned, sent), e, (rose, read)) first is =
+      let one = s first is in (
+        one.0 ++ Sent had ∷ [],
+        ap (λ (w : WireShown). w.story) read ∙ ap (λ (w : WireShown). w.story) sent ∙ story_then old.story one.0 (Sent had ∷ []) one.1,
+        (one.0, had, here gate, (held, one.2, none), ap here learned, refl),
+      )
+  hears_talked WriteFault gate gate' held buf s none (same, rose, cut) first is =
+      let one = s first is in (
+        one.0 ++ NotSent ∷ [],
+        ap (λ (w : WireShown). w.story) cut ∙ story_then old.story one.0 (NotSent ∷ []) one.1,
+        inl (
+          one.0,
+          held,
+          subst (λ g. Talking scene (record { story = first; seat = seat; means = means }) one.0 held (here g)) (sym same) one.2,
+          refl,
+        ),
+      )
+  hears_talked NotOpened gate gate' held buf s none never first is = absurd never
+  hears_talked Malformed gate gate' held buf s none never first is = absurd never
+  hears_talked TurnsUsed gate gate' held buf s none never first is = absurd never
+  hears_talked Behind gate gate' held buf s none never first is = absurd never
+
+-- a session that is to end so stands so, before what was written is sent for the last time: its reads may be used up, too
+abbrev pub StandsSo : Scene → Served → Begun → List Happened → Standing → Type 0
+StandsSo scene TurnsUsed begun story last = IsToRead scene begun story last
+StandsSo scene Malformed begun story last = Stops scene Malformed begun story last
+StandsSo scene Behind begun story last = Stops scene Behind begun story last
+StandsSo scene WriteFault begun story last = Stops scene WriteFault begun story last
+StandsSo scene Ended begun story last = ⊥
+StandsSo scene ReadFault begun story last = ⊥
+StandsSo scene NotOpened begun story last = ⊥
+
+so_stopped : (scene : Scene) (served : Served) (begun : Begun) (story : List Happened) (last : Standing) → Stops scene served begun story last
+    → StandsSo scene served begun story last
+so_stopped scene Malformed begun story last is = is
+so_stopped scene Behind begun story last is = is
+so_stopped scene WriteFault begun story last is = is
+so_stopped scene TurnsUsed begun story last is = absurd is
+so_stopped scene Ended begun story last is = absurd is
+so_stopped scene ReadFault begun story last is = absurd is
+so_stopped scene NotOpened begun story last is = absurd is
+
+-- what it tells then
+abbrev pub Halts : Scene → Served → SeatShown → Means → Standing → WireShown → WireShown → Type 0
+Halts scene served seat means last begun now = (first : List Happened) → begun.story ≡ Some first → (story : List Happened) × (now.story ≡ Some story)
+    × StandsSo scene served (record { story = first; seat = seat; means = means }) story last
+
+-- the end after messages
+pub stands_ends : (scene : Scene) (served : Served) (seat : SeatShown) (means : Means) (last : Standing) (begun old new : WireShown) (held : List ℕ)
+    (standing : Standing) → Stands scene seat means begun old held standing → EndsHere scene served old held standing new last
+    → Halts scene served seat means last begun new
+stands_ends scene served seat means last begun old new held standing s ends first is =
+    let one = s first is in
+    let start : Begun = record { story = first; seat = seat; means = means } in
+    let end = ends start one.0 one.1 one.2 in
+    (end.0, end.1, so_stopped scene served start end.0 last end.2)
+
+-- the reads are used up
+pub used_ends : (scene : Scene) (seat : SeatShown) (means : Means) (begun now : WireShown) (held : List ℕ) (standing : Standing)
+    → Stands scene seat means begun now held standing → IsPartial held → Halts scene TurnsUsed seat means standing begun now
+used_ends scene seat means begun now held standing s none first is =
+    let one = s first is in (one.0, one.1, (held, one.2, none))
+
+-- all was sent that was written
+sent_ends : (scene : Scene) (served : Served) (w : WireShown) (begun : Begun) (story : List Happened) (had : Bool) (at last : Standing) → IsToPart served w
+    → w.cut ≡ false → StandsSo scene served begun story at → last ≡ sends scene had at → Ends scene served begun (story ++ Sent had ∷ []) last
+sent_ends scene TurnsUsed w begun story had at last is whole stands sent = (story, had, at, stands, sent, refl)
+sent_ends scene Malformed w begun story had at last is whole stands sent = (story, had, at, stands, sent, refl)
+sent_ends scene Behind w begun story had at last is whole stands sent = (story, had, at, stands, sent, refl)
+sent_ends scene WriteFault w begun story had at last is whole stands sent = absurd (false≢true (sym whole ∙ is))
+sent_ends scene Ended w begun story had at last is whole stands sent = absurd is
+sent_ends scene ReadFault w begun story had at last is whole stands sent = absurd is
+sent_ends scene NotOpened w begun story had at last is whole stands sent = absurd is
+
+-- it could not be sent
+unsent_ends : (scene : Scene) (served : Served) (begun : Begun) (story : List Happened) (last : Standing) → StandsSo scene served begun story last
+    → Ends scene WriteFault begun (story ++ NotSent ∷ []) last
+unsent_ends scene TurnsUsed begun story last (held, t, none) = inl (story, held, t, refl)
+unsent_ends scene Malformed begun story last (held, t, bad) = inl (story, held, t, refl)
+unsent_ends scene Behind begun story last none = inr (story, refl, inr (inr none))
+unsent_ends scene WriteFault begun story last (inl short) = inr (story, refl, inl short)
+unsent_ends scene WriteFault begun story last (inr unsent) = inr (story, refl, inr (inl unsent))
+unsent_ends scene Ended begun story last is = absurd is
+unsent_ends scene ReadFault begun story last is = absurd is
+unsent_ends scene NotOpened begun story last is = absurd is
+
+-- the session parts
+pub parts_talked : (scene : Scene) (served told : Served) (seat : SeatShown) (means : Means) (place : Place) (now : SeatShown) (launcher : LauncherShown)
+    (gate gate' : Option (List Learnt)) (begun old new : WireShown) → IsToPart served old
+    → Halts scene served seat means (standing_of place now (means_of launcher gate)) begun old → Parts scene.session served told gate gate' old new
+    → Talked scene told seat means (standing_of place now (means_of launcher gate')) begun new
+parts_talked scene served told seat means place now launcher gate gate' begun old new is halts (inl (same, (had, whole, kept, learned, sent))) first begins_so =
+    let one = halts first begins_so in
+    let start : Begun = record { story = first; seat = seat; means = means } in
+    let at = standing_of place now (means_of launcher gate) in
+    let last = standing_of place now (means_of launcher gate') in (
+      one.0 ++ Sent had ∷ [],
+      ap (λ (w : WireShown). w.story) sent ∙ story_then old.story one.0 (Sent had ∷ []) one.1,
+      subst (λ s. Ends scene s start (one.0 ++ Sent had ∷ []) last) (sym same)
+          (sent_ends scene served old start one.0 had at last is whole one.2 (ap (λ g. standing_of place now (means_of launcher g)) learned)),
+    )
+parts_talked scene served told seat means place now launcher gate gate' begun old new is halts (inr (fault, (same, rose, cut))) first begins_so =
+    let one = halts first begins_so in
+    let start : Begun = record { story = first; seat = seat; means = means } in (
+      one.0 ++ NotSent ∷ [],
+      ap (λ (w : WireShown). w.story) cut ∙ story_then old.story one.0 (NotSent ∷ []) one.1,
+      subst (λ s. Ends scene s start (one.0 ++ NotSent ∷ []) (standing_of place now (means_of launcher gate'))) (sym fault)
+          (subst (λ g. Ends scene WriteFault start (one.0 ++ NotSent ∷ []) (standing_of place now (means_of launcher g))) (sym same)
+          (unsent_ends scene served start one.0 (standing_of place now (means_of launcher gate)) one.2)),
+    )
 
 -- one message was taken, and got its reply
-pub taken_goes : (session : SessionId) (old new : WireShown) (f f' : Unread) (from to : Standing) → TakesOne session (Ok true) old f from new f' to
-    → GoesOn session old f.bytes from new f'.bytes to
-taken_goes session old new f f' from to (body, takes, ends) = turn_goes session body old new f.bytes f'.bytes from to takes ends
+pub taken_goes : (scene : Scene) (old new : WireShown) (f f' : Unread) (from to : Standing) → TakesOne scene (Ok true) old f from new f' to
+    → GoesOn scene old f.bytes from new f'.bytes to
+taken_goes scene old new f f' from to (body, takes, ends) = turn_goes scene body old new f.bytes f'.bytes from to takes ends
 
 -- with a message taken, fewer bytes are held
-pub taken_fewer : (session : SessionId) (old new : WireShown) (f f' : Unread) (from to : Standing) → TakesOne session (Ok true) old f from new f' to
+pub taken_fewer : (scene : Scene) (old new : WireShown) (f f' : Unread) (from to : Standing) → TakesOne scene (Ok true) old f from new f' to
     → length f'.bytes < length f.bytes
-taken_fewer session old new f f' from to (body, takes, ends) = takes_fewer body f.bytes f'.bytes takes
+taken_fewer scene old new f f' from to (body, takes, ends) = takes_fewer body f.bytes f'.bytes takes
 
 -- no message is left
-pub all_taken : (session : SessionId) (old mid new : WireShown) (f g h : Unread) (p q r : Standing) → GoesOn session old f.bytes p mid g.bytes q
-    → TakesOne session (Ok false) mid g q new h r → TakesAll session (Ok tt) old f p new h r
-all_taken session old mid new f g h p q r goes (none, kept, room, same, stayed) = (
-  goes_then session old mid new f.bytes g.bytes h.bytes p q r goes (goes_nowhere session mid new g.bytes h.bytes q r same kept stayed),
+pub all_taken : (scene : Scene) (old mid new : WireShown) (f g h : Unread) (p q r : Standing) → GoesOn scene old f.bytes p mid g.bytes q
+    → TakesOne scene (Ok false) mid g q new h r → TakesAll scene (Ok tt) old f p new h r
+all_taken scene old mid new f g h p q r goes (none, kept, room, same, stayed) = (
+  goes_then scene old mid new f.bytes g.bytes h.bytes p q r goes (goes_nowhere scene mid new g.bytes h.bytes q r same kept stayed),
   none,
   room,
 )
-
--- the end at a read: of the input; or the read failed; or what was kept could not be sent before it
-pub hears_talked : (session : SessionId) (seat : SeatShown) (served : Served) (begun old new : WireShown) (held buf : List ℕ) (standing : Standing)
-    → Stands session seat begun old held standing → IsPartial held → Hears (Err served) buf old new → Talked session served seat standing begun new
-hears_talked session seat Ended begun old new held buf standing s none (whole, read) first is =
-    let one = s first is in (
-      one.0 ++ Heard [] ∷ [],
-      ap (λ (w : WireShown). w.story) read ∙ story_then old.story one.0 (Heard [] ∷ []) one.1,
-      (one.0, (held, one.2, none), refl),
-    )
-hears_talked session seat ReadFault begun old new held buf standing s none (whole, rose, read) first is =
-    let one = s first is in (one.0, ap (λ (w : WireShown). w.story) read ∙ one.1, (held, one.2, none))
-hears_talked session seat WriteFault begun old new held buf standing s none (rose, cut) first is =
-    let one = s first is in (one.0, ap (λ (w : WireShown). w.story) cut ∙ one.1, inr (inl (held, one.2, none)))
-hears_talked session seat NotOpened begun old new held buf standing s none never first is = absurd never
-hears_talked session seat Malformed begun old new held buf standing s none never first is = absurd never
-hears_talked session seat TurnsUsed begun old new held buf standing s none never first is = absurd never
-hears_talked session seat Behind begun old new held buf standing s none never first is = absurd never
-
--- the reads are used up
-pub used_ends : (session : SessionId) (seat : SeatShown) (begun now : WireShown) (held : List ℕ) (standing : Standing)
-    → Stands session seat begun now held standing → IsPartial held → Talked session TurnsUsed seat standing begun now
-used_ends session seat begun now held standing s none first is =
-    let one = s first is in (one.0, one.1, (held, one.2, none))
-
--- what was kept could not be sent where the session would have ended so
-not_sent : (session : SessionId) (served : Served) (w : WireShown) (begun : Begun) (story : List Happened) (last : Standing) → IsToPart served w
-    → Ends session served begun story last → Ends session WriteFault begun story last
-not_sent session WriteFault w begun story last is ends = ends
-not_sent session Malformed w begun story last is ends = inr (inr (inl ends))
-not_sent session Behind w begun story last is ends = inr (inr (inr ends))
-not_sent session TurnsUsed w begun story last is ends = inr (inl ends)
-not_sent session Ended w begun story last is ends = absurd is
-not_sent session ReadFault w begun story last is ends = absurd is
-not_sent session NotOpened w begun story last is ends = absurd is
-
--- the session parts
-pub parts_talked : (session : SessionId) (served told : Served) (seat : SeatShown) (last : Standing) (begun old new : WireShown) → IsToPart served old
-    → Talked session served seat last begun old → Parts served told old new → Talked session told seat last begun new
-parts_talked session served told seat last begun old new is talked (inl (same, whole, sent)) first begins_so =
-    let one = talked first begins_so in (
-      one.0,
-      ap (λ (w : WireShown). w.story) sent ∙ one.1,
-      subst (λ s. Ends session s (record { story = first; seat = seat }) one.0 last) (sym same) one.2,
-    )
-parts_talked session served told seat last begun old new is talked (inr (fault, rose, cut)) first begins_so =
-    let one = talked first begins_so in (
-      one.0,
-      ap (λ (w : WireShown). w.story) cut ∙ one.1,
-      subst (λ s. Ends session s (record { story = first; seat = seat }) one.0 last) (sym fault)
-          (not_sent session served old (record { story = first; seat = seat }) one.0 last is one.2),
-    )
 
 -- no read so far
 pub raised_none : (n : ℕ) → n ≡ raised_by 0 n

@@ -1,4 +1,5 @@
 pub mod Wires
+pub mod Scenes
 pub mod Opening
 pub mod Places
 pub mod Talk

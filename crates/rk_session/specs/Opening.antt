@@ -1,6 +1,5 @@
 -- How a client came to a hall, or was shut out of it, and how it left, as the seat of its session knows.
 use Rattle.std.specs.Prelude.{◌≡◌, ◌≢◌, ◌⊎◌, ℕ, Option, Some, None, Result}
-use Rattle.rk_names.specs.declared.numbers.SessionId.{SessionId}
 use Rattle.rk_message.specs.declared.reply.Reply.{Reply}
 use Rattle.rk_machine.specs.declared.event.EventOf.TheVariants.{Opened, Gone}
 use Rattle.rk_machine.specs.declared.event.Answer.{Answer}
@@ -15,6 +14,7 @@ use Rattle.rk_hall.specs.declared.lapse.Lapse.{Lapse}
 use Rattle.rk_talk.specs.Said.{IsRefusal, IsToWait}
 use Rattle.rk_talk.specs.Stays.{Stays}
 use Rattle.rk_talk.specs.declared.saying.Saying.{Saying}
+use Rattle.rk_session.specs.Scenes.{Scene}
 use Rattle.rk_talk.specs.declared.saying.Saying.TheVariants as saying
 
 -- an answer that is a refusal
@@ -30,24 +30,24 @@ Refuses n (Some (saying.Short e)) = ⊥
 Refuses n (Some saying.Behind) = IsToWait n.answer
 
 -- a client was opened in this hall: by one turn of the seat, whose answer says that it was done
-abbrev pub IsOpened : SessionId → HallNo → SeatShown → SeatShown → Type 0
-IsOpened session hall old new = (now : ℕ) × (n : Noted) × IsCalled hall now (told.Opened session) (part hall old) n × Refuses n None
-    × (new ≡ with_part hall old (after_call (part hall old) (Opened session) n))
+abbrev pub IsOpened : Scene → HallNo → SeatShown → SeatShown → Type 0
+IsOpened scene hall old new = (now : ℕ) × scene.tells now × (n : Noted) × IsCalled hall now (told.Opened scene.session) (part hall old) n × Refuses n None
+    × (new ≡ with_part hall old (after_call (part hall old) (Opened scene.session) n))
 
 -- a client was reported gone from this hall: it is none of the seat's, which made the one turn that was owed
-abbrev pub HasGone : SessionId → HallNo → SeatShown → SeatShown → Type 0
-HasGone session hall old new = (now : ℕ) × (r : Result Noted Lapse) × OwedSeen hall now (Gone session) (with_part hall old (without_client (part hall old))) new r
+abbrev pub HasGone : Scene → HallNo → SeatShown → SeatShown → Type 0
+HasGone scene hall old new = (now : ℕ) × (r : Result Noted Lapse) × scene.tells now × OwedSeen hall now (Gone scene.session) (with_part hall old (without_client (part hall old))) new r
 
 -- a client that stood here stands there: that is here, and the seat made no turn; or it was opened there, and then reported gone from here
-abbrev pub IsMoved : SessionId → HallNo → HallNo → SeatShown → SeatShown → Type 0
-IsMoved session here there old new = ((there ≡ here) × (new ≡ old))
-    ⊎ ((there ≢ here) × (mid : SeatShown) × IsOpened session there old mid × HasGone session here mid new)
+abbrev pub IsMoved : Scene → HallNo → HallNo → SeatShown → SeatShown → Type 0
+IsMoved scene here there old new = ((there ≡ here) × (new ≡ old))
+    ⊎ ((there ≢ here) × (mid : SeatShown) × IsOpened scene there old mid × HasGone scene here mid new)
 
 -- a client was shut out of this hall, and that is to be said of it
-pub data IsShutOut (session : SessionId) (hall : HallNo) (old new : SeatShown) (s : Saying) : Type 0 where
+pub data IsShutOut (scene : Scene) (hall : HallNo) (old new : SeatShown) (s : Saying) : Type 0 where
   -- the call of its opening was refused, and the seat is as before
-  IsNotCalled : (f : CallFault) → CallRefused (part hall old) f → IsRefusal f s → new ≡ old → IsShutOut session hall old new s
+  IsNotCalled : (f : CallFault) → CallRefused (part hall old) f → IsRefusal f s → new ≡ old → IsShutOut scene hall old new s
   -- its opening was one turn of the seat, whose answer opened no client
-  IsNotOpened : (now : ℕ) (n : Noted) → IsCalled hall now (told.Opened session) (part hall old) n → Refuses n (Some s)
-      → Stays (with_part hall old (after_call (part hall old) (Opened session) n)) new
-      → (started n.answer ≡ None → new ≡ with_part hall old (after_call (part hall old) (Opened session) n)) → IsShutOut session hall old new s
+  IsNotOpened : (now : ℕ) (n : Noted) → scene.tells now → IsCalled hall now (told.Opened scene.session) (part hall old) n → Refuses n (Some s)
+      → Stays (with_part hall old (after_call (part hall old) (Opened scene.session) n)) new
+      → (started n.answer ≡ None → new ≡ with_part hall old (after_call (part hall old) (Opened scene.session) n)) → IsShutOut scene hall old new s

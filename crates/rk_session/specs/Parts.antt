@@ -1,12 +1,17 @@
 -- A part of a session: one message, all that are held, and what is written of one.
-use Rattle.std.specs.Prelude.{◌≡◌, ◌≢◌, ◌≤◌, ◌⊎◌, ℕ, Bool, true, false, List, [], ◌∷◌, ◌++◌, take, Option, Some, None, Result, Ok, Err}
+use Rattle.std.specs.Prelude.{◌≡◌, ◌≢◌, ◌≤◌, ◌⊎◌, ℕ, Bool, true, false, List, [], ◌∷◌, ◌++◌, Option, Some, None, Result, Ok, Err}
 use Rattle.rk_names.specs.declared.numbers.SessionId.{SessionId}
+use Rattle.rk_conf.specs.declared.line.Line.{Line}
 use Rattle.rk_frame.specs.Streams.{TakesBody, IsPartial}
 use Rattle.rk_frame.specs.Unread.{Unread}
 use Rattle.rk_message.specs.declared.reply.Reply.{Reply}
 use Rattle.rk_devices.specs.declared.device.DeviceFault.{DeviceFault}
-use Rattle.rk_devices.specs.Counts.{Rose, raised}
+use Rattle.rk_devices.specs.declared.driven.Driven.{Driven}
+use Rattle.rk_devices.specs.Counts.{Rose}
+use Rattle.rk_devices.specs.Learnt.{Learnt}
 use Rattle.rk_devices.specs.Shown.{and_then}
+use Rattle.rk_child.specs.Driving.{Drives}
+use Rattle.rk_child.specs.Learning.{Learned}
 use Rattle.rk_record.specs.declared.hall_no.HallNo.{HallNo}
 use Rattle.rk_record.specs.Turns.{Noted}
 use Rattle.rk_hall.specs.Seats.{SeatShown, TokenShown}
@@ -18,61 +23,91 @@ use Rattle.rk_talk.specs.declared.saying.Saying.TheVariants as saying
 use Rattle.rk_session.specs.declared.serving.Served.{Served}
 use Rattle.rk_session.specs.declared.serving.Served.TheVariants.{Ended, ReadFault, WriteFault, Malformed, Behind}
 use Rattle.rk_session.specs.Places.{Says, Standing}
-use Rattle.rk_session.specs.Talk.{Begun, Ends, Talking, Tells, told_in}
-use Rattle.rk_session.specs.Wires.{Counts, Happened, Heard, WireShown}
+use Rattle.rk_session.specs.Scenes.{IsAllSent, IsCutOff, Means, Scene, after_sent, gate_after}
+use Rattle.rk_session.specs.Talk.{Begun, HasNoMore, HasNoReply, IsCutShort, IsNotSent, Talking, Tells, told_in}
+use Rattle.rk_session.specs.Wires.{Counts, Happened, NotSent, Reads, Sent, WireShown}
 
 -- whatever talk led here, with this held and the client there, goes on so, and then that is held and the client stands there
-abbrev pub GoesOn : SessionId → WireShown → List ℕ → Standing → WireShown → List ℕ → Standing → Type 0
-GoesOn session old held from new held' to = (begun : Begun) (story : List Happened) → old.story ≡ Some story → Talking session begun story held from
-    → (story' : List Happened) × (new.story ≡ Some story') × Talking session begun story' held' to
+abbrev pub GoesOn : Scene → WireShown → List ℕ → Standing → WireShown → List ℕ → Standing → Type 0
+GoesOn scene old held from new held' to = (begun : Begun) (story : List Happened) → old.story ≡ Some story → Talking scene begun story held from
+    → (story' : List Happened) × (new.story ≡ Some story') × Talking scene begun story' held' to
 
--- whatever talk led here, with this held and the client there, the session has ended so, and the client stands there
-abbrev pub EndsHere : SessionId → Served → WireShown → List ℕ → Standing → WireShown → Standing → Type 0
-EndsHere session served old held from new last = (begun : Begun) (story : List Happened) → old.story ≡ Some story
-    → Talking session begun story held from → (story' : List Happened) × (new.story ≡ Some story') × Ends session served begun story' last
+-- a session that is to end so stands so, before what was written is sent for the last time
+abbrev pub Stops : Scene → Served → Begun → List Happened → Standing → Type 0
+Stops scene Malformed begun story last = HasNoMore scene begun story last
+Stops scene Behind begun story last = HasNoReply scene begun story last
+Stops scene WriteFault begun story last = IsCutShort scene begun story last ⊎ IsNotSent scene begun story last
+Stops scene _ begun story last = ⊥
 
--- an end at a message, and not at a read; a reply that could not be written has cut the wire
+-- whatever talk led here, with this held and the client there, the session is to end so, and the client stands there
+abbrev pub EndsHere : Scene → Served → WireShown → List ℕ → Standing → WireShown → Standing → Type 0
+EndsHere scene served old held from new last = (begun : Begun) (story : List Happened) → old.story ≡ Some story
+    → Talking scene begun story held from → (story' : List Happened) × (new.story ≡ Some story') × Stops scene served begun story' last
+
+-- an end at a message, and not at a read; a reply that could not be written, or sent, has cut the wire
 abbrev pub IsEndInTurns : Served → WireShown → Type 0
 IsEndInTurns WriteFault w = w.cut ≡ true
 IsEndInTurns Malformed w = Unit {0}
 IsEndInTurns Behind w = Unit {0}
 IsEndInTurns _ w = ⊥
 
--- all messages that were held got their replies, or the session has ended
-abbrev pub TakesAll : SessionId → Result Unit Served → WireShown → Unread → Standing → WireShown → Unread → Standing → Type 0
-TakesAll session (Ok u) old frames from new frames' to =
-    GoesOn session old frames.bytes from new frames'.bytes to × IsPartial frames'.bytes × (4096 ≤ frames'.room)
-TakesAll session (Err served) old frames from new frames' to = IsEndInTurns served new × EndsHere session served old frames.bytes from new to
+-- all messages that were held got their replies, or the session is to end
+abbrev pub TakesAll : Scene → Result Unit Served → WireShown → Unread → Standing → WireShown → Unread → Standing → Type 0
+TakesAll scene (Ok u) old frames from new frames' to =
+    GoesOn scene old frames.bytes from new frames'.bytes to × IsPartial frames'.bytes × (4096 ≤ frames'.room)
+TakesAll scene (Err served) old frames from new frames' to = IsEndInTurns served new × EndsHere scene served old frames.bytes from new to
 
 -- ---- sendings
 
--- on this wire nothing was heard, noted or said, but what was kept may have been sent, or some of it be lost
-pub record Pushes (old new : WireShown) : Type 0 where
-  pub story : new.story ≡ old.story
+-- what was written was sent, and the gate learned of it where that was anything; or the sending has failed, and the wire is cut
+abbrev pub Flushes : SessionId → Result Unit Served → Option (List Learnt) → Option (List Learnt) → WireShown → WireShown → Type 0
+Flushes session (Ok u) gate gate' old new = (had : Bool) × (old.cut ≡ false) × (had ≡ old.kept) × (gate' ≡ gate_after session gate (Sent had))
+    × (new ≡ record old { kept = false; story = and_then old.story (Sent had ∷ []) })
+Flushes session (Err WriteFault) gate gate' old new = (gate' ≡ gate) × Rose old.count new.count
+    × (new ≡ record old { count = new.count; kept = false; cut = true; story = and_then old.story (NotSent ∷ []) })
+Flushes session (Err _) gate gate' old new = ⊥
+
+-- what was written was sent, and then bytes came; or the end of the input was told, or the read failed; or the sending failed, and there was no read
+abbrev pub Hears : SessionId → Result ℕ Served → List ℕ → Option (List Learnt) → Option (List Learnt) → WireShown → WireShown → Type 0
+Hears session (Ok n) buf gate gate' old new = (n ≢ 0) × (mid : WireShown) × Flushes session (Ok tt) gate gate' old mid × Reads (Ok n) buf mid new
+Hears session (Err Ended) buf gate gate' old new = (mid : WireShown) × Flushes session (Ok tt) gate gate' old mid × Reads (Ok 0) buf mid new
+Hears session (Err ReadFault) buf gate gate' old new =
+    (mid : WireShown) × Flushes session (Ok tt) gate gate' old mid × (e : DeviceFault) × Reads (Err e) buf mid new
+Hears session (Err WriteFault) buf gate gate' old new = Flushes session (Err WriteFault) gate gate' old new
+Hears session (Err _) buf gate gate' old new = ⊥
+
+-- what was written was sent at the end of a session, or that failed, and then it is a fault of writing
+abbrev pub Parts : SessionId → Served → Served → Option (List Learnt) → Option (List Learnt) → WireShown → WireShown → Type 0
+Parts session served told gate gate' old new = ((told ≡ served) × Flushes session (Ok tt) gate gate' old new)
+    ⊎ ((told ≡ WriteFault) × Flushes session (Err WriteFault) gate gate' old new)
+
+-- on this wire these sendings were made, and nothing was heard, noted or said
+pub record Pushes (sent : List Happened) (old new : WireShown) : Type 0 where
+  pub story : new.story ≡ and_then old.story sent
   pub reads : new.reads ≡ old.reads
   pub counts : Counts old new
 
--- what was kept was sent, and then bytes came; or the end of the input was told, or the read failed; or the sending failed, and there was no read
-abbrev pub Hears : Result ℕ Served → List ℕ → WireShown → WireShown → Type 0
-Hears (Ok n) buf old new = (n ≢ 0) × (old.cut ≡ false)
-    × (new ≡ record old { kept = false; reads = raised old.reads; story = and_then old.story (Heard (take n buf) ∷ []) })
-Hears (Err Ended) buf old new = (old.cut ≡ false)
-    × (new ≡ record old { kept = false; reads = raised old.reads; story = and_then old.story (Heard [] ∷ []) })
-Hears (Err ReadFault) buf old new = (old.cut ≡ false) × Rose old.count new.count
-    × (new ≡ record old { count = new.count; kept = false; reads = raised old.reads })
-Hears (Err WriteFault) buf old new = Rose old.count new.count × (new ≡ record old { count = new.count; kept = false; cut = true })
-Hears (Err _) buf old new = ⊥
+-- this is so of the sendings that were made
+abbrev pub Sending : (List Happened → Type 0) → WireShown → WireShown → Type 0
+Sending fits old new = (sent : List Happened) × fits sent × Pushes sent old new
 
--- what was kept was sent at the end of a session, or that failed, and then it is a fault of writing
-abbrev pub Parts : Served → Served → WireShown → WireShown → Type 0
-Parts served told old new = ((told ≡ served) × (old.cut ≡ false) × (new ≡ record old { kept = false }))
-    ⊎ ((told ≡ WriteFault) × Rose old.count new.count × (new ≡ record old { count = new.count; kept = false; cut = true }))
+-- what was written could not be sent, and nothing else was done
+abbrev pub IsStopped : WireShown → WireShown → Type 0
+IsStopped old new = (new.cut ≡ true) × (new.story ≡ and_then old.story (NotSent ∷ []))
 
 -- ---- what is written
 
--- a call gave this receipt, and this launch: what was started was brought to its end, where anything was, and then the receipt settled
-abbrev pub Finishes : HallNo → SessionId → Noted → Option TokenShown → SeatShown → SeatShown → Saying → Type 0
-Finishes hall session receipt launch old new s = (mid : SeatShown) × Stays old mid × (launch ≡ None → mid ≡ old) × Settles hall session receipt mid new s
+-- what was started for this launch, if there is one, was brought to its end by commands that the configuration chooses, and the gate learned of them
+abbrev pub Brought : List Line → Option TokenShown → Means → Means → Type 0
+Brought conf None old new = new ≡ old
+Brought conf (Some l) old new = (driven : Driven) × Drives conf l.subject driven old.launcher new.launcher × Learned l.key l.subject driven old.gate new.gate
+
+-- a call gave this receipt, and this launch: after these sendings what was started was brought to its end, where anything was. Then the receipt settled, if all
+-- was sent; or nothing more was done, if it was not
+abbrev pub Finishes : Scene → HallNo → Noted → Option TokenShown → SeatShown → SeatShown → Means → Means → List Happened → Saying → Type 0
+Finishes scene hall receipt launch old new means means' sent s = (mid : SeatShown) × Stays old mid × (launch ≡ None → mid ≡ old)
+    × Brought scene.conf launch (after_sent scene.session sent means) means'
+    × ((IsAllSent sent × Settles scene.tells hall scene.session receipt mid new s) ⊎ (IsCutOff sent × (s ≡ saying.Behind) × (new ≡ mid)))
 
 -- a write that failed ends the session
 abbrev pub ended : Result Unit DeviceFault → Result Unit Served
@@ -87,18 +122,26 @@ Speaks x (Err WriteFault) story new = (note : Option Noted) × (r : Reply) × (f
 Speaks x (Err Behind) story new = (x ≡ saying.Behind) × (new.story ≡ story)
 Speaks x (Err _) story new = ⊥
 
--- one of these sayings is what is to be said, and it was said; or the session has ended at it
-abbrev pub IsSaid : (Saying → Type 0) → Result Unit Served → WireShown → WireShown → Type 0
-IsSaid fits result old new = (s : Saying) × fits s × Speaks s result old.story new
+-- after some sendings one of these sayings is what is to be said, and it was said, or the session is to end at it; or the session is to end before, since what
+-- was written could not be sent, and all else is the same
+abbrev pub IsSaid : (List Happened → Saying → Type 0) → Type 0 → Result Unit Served → WireShown → WireShown → Type 0
+IsSaid fits same result old new = ((sent : List Happened) × (s : Saying) × fits sent s × Speaks s result (and_then old.story sent) new)
+    ⊎ ((result ≡ Err WriteFault) × same × IsStopped old new)
+
+-- what is to be said after some sendings, or that the session is to end before
+abbrev pub SaysOrStops : (List Happened → Saying → Type 0) → Type 0 → Result Saying Served → WireShown → WireShown → Type 0
+SaysOrStops fits same (Ok s) old new = Sending (λ sent. fits sent s) old new
+SaysOrStops fits same (Err WriteFault) old new = same × IsStopped old new
+SaysOrStops fits same (Err _) old new = ⊥
 
 -- one message with its reply, or the end of the session at it
-abbrev pub TurnEnds : SessionId → Standing → List ℕ → Standing → Result Unit Served → WireShown → WireShown → Type 0
-TurnEnds session from body to result old new = IsSaid (λ s. Says session from body s to) result old new
+abbrev pub TurnEnds : Scene → Standing → List ℕ → Standing → Result Unit Served → WireShown → WireShown → Type 0
+TurnEnds scene from body to result old new = IsSaid (λ sent s. Says scene from body sent s to) (to ≡ from) result old new
 
--- the next message, if there was one, with its reply: it was at the front of the bytes that were held; or there was none, or the session has ended
-abbrev pub TakesOne : SessionId → Result Bool Served → WireShown → Unread → Standing → WireShown → Unread → Standing → Type 0
-TakesOne session (Ok true) old frames from new frames' to =
-    (body : List ℕ) × TakesBody body frames.bytes frames'.bytes × TurnEnds session from body to (Ok tt) old new
-TakesOne session (Ok false) old frames from new frames' to =
+-- the next message, if there was one, with its reply: it was at the front of the bytes that were held; or there was none, or the session is to end
+abbrev pub TakesOne : Scene → Result Bool Served → WireShown → Unread → Standing → WireShown → Unread → Standing → Type 0
+TakesOne scene (Ok true) old frames from new frames' to =
+    (body : List ℕ) × TakesBody body frames.bytes frames'.bytes × TurnEnds scene from body to (Ok tt) old new
+TakesOne scene (Ok false) old frames from new frames' to =
     IsPartial frames'.bytes × (frames'.bytes ≡ frames.bytes) × (4096 ≤ frames'.room) × (new ≡ old) × (to ≡ from)
-TakesOne session (Err served) old frames from new frames' to = IsEndInTurns served new × EndsHere session served old frames.bytes from new to
+TakesOne scene (Err served) old frames from new frames' to = IsEndInTurns served new × EndsHere scene served old frames.bytes from new to

@@ -1,7 +1,6 @@
 -- What a session does, message by message.
-use Rattle.std.specs.Prelude.{◌≡◌, ◌≢◌, ◌⊎◌, ℕ, false, List, [], ◌∷◌, ◌++◌, Option, Some, None}
+use Rattle.std.specs.Prelude.{◌≡◌, ◌≢◌, ◌⊎◌, ℕ, Bool, false, List, [], ◌∷◌, ◌++◌, Option, Some, None}
 use Rattle.rk_names.specs.declared.errors.Errno.TheVariants.{Enomem}
-use Rattle.rk_names.specs.declared.numbers.SessionId.{SessionId}
 use Rattle.rk_frame.specs.Framing.{IsBody, frame}
 use Rattle.rk_frame.specs.Streams.{IsPartial, HasFault}
 use Rattle.rk_message.specs.declared.reply.Reply.{Reply}
@@ -16,8 +15,9 @@ use Rattle.rk_talk.specs.declared.saying.Saying.TheVariants as saying
 use Rattle.rk_session.specs.declared.serving.Served.{Served}
 use Rattle.rk_session.specs.declared.serving.Served.TheVariants.{Ended, NotOpened, ReadFault, WriteFault, Malformed, TurnsUsed, Behind}
 use Rattle.rk_session.specs.Opening.{HasGone, IsOpened, IsShutOut}
-use Rattle.rk_session.specs.Places.{Says, Standing, at_first, standing_of}
-use Rattle.rk_session.specs.Wires.{Happened, Heard, HasNoted, Said, WireShown}
+use Rattle.rk_session.specs.Places.{Says, Standing, at_first, sends, standing_of}
+use Rattle.rk_session.specs.Scenes.{Means, Scene}
+use Rattle.rk_session.specs.Wires.{Happened, Heard, HasNoted, NotSent, Said, Sent, WireShown}
 
 -- ---- one message
 
@@ -35,9 +35,9 @@ Tells (saying.Short e) None r = r ≡ reply.Refused e
 Tells (saying.Short e) (Some m) r = ⊥
 Tells saying.Behind _ r = ⊥
 
--- a message of a client that stood here and stands there then: its note and its reply are what is to be said of it
-abbrev pub IsTurn : SessionId → Standing → Turn → Standing → Type 0
-IsTurn session from t to = IsBody t.body × (s : Saying) × Says session from t.body s to × Tells s t.note t.reply
+-- a message of a client that stood here and stands there then: its note and its reply are what is to be said of it, and that was sent before
+abbrev pub IsTurn : Scene → Standing → Turn → List Happened → Standing → Type 0
+IsTurn scene from t sent to = IsBody t.body × (s : Saying) × Says scene from t.body sent s to × Tells s t.note t.reply
 
 -- a receipt is noted, if there is one, before these bytes are written
 abbrev pub told_in : Option Noted → List ℕ → List Happened
@@ -46,63 +46,70 @@ told_in (Some n) bytes = HasNoted n ∷ Said bytes ∷ []
 
 -- ---- a session
 
--- a session as it began: what had happened on its wire before, and what its seat showed
+-- a session as it began: what had happened on its wire before, what its seat showed, and what it acts by
 pub record Begun : Type 0 where
   pub story : List Happened
   pub seat : SeatShown
+  pub means : Means
 
 -- what has happened since a session began, what it holds of the bytes that came, and how its client stands: bytes come only if it holds no whole message;
 -- the message at the front is taken, its receipt noted and its reply written, before anything else happens; each message finds the seat as the one before
 -- left it. What is said is written to the wire, which may keep it. It is sent in this order, and all of it before the next bytes are heard, before the session
 -- waits for an outcome or a handler, and at its end
-pub data Talking : (session : SessionId) (begun : Begun) (story : List Happened) (held : List ℕ) (standing : Standing) → Type 0 where
-  begins : (session : SessionId) (begun : Begun) → Talking session begun begun.story [] (standing_of at_first begun.seat)
-  hears : (session : SessionId) (begun : Begun) (story : List Happened) (held piece : List ℕ) (standing : Standing)
-      → Talking session begun story held standing → IsPartial held → piece ≢ []
-      → Talking session begun (story ++ Heard piece ∷ []) (held ++ piece) standing
-  turns : (session : SessionId) (begun : Begun) (story : List Happened) (held : List ℕ) (t : Turn) (from to : Standing)
-      → Talking session begun story (frame t.body ++ held) from → IsTurn session from t to
-      → Talking session begun (story ++ told_in t.note (reply_bytes t.reply)) held to
+pub data Talking (scene : Scene) (begun : Begun) : List Happened → List ℕ → Standing → Type 0 where
+  begins : Talking scene begun begun.story [] (standing_of at_first begun.seat begun.means)
+  hears : (story : List Happened) (held piece : List ℕ) (had : Bool) (standing : Standing)
+      → Talking scene begun story held standing → IsPartial held → piece ≢ []
+      → Talking scene begun (story ++ Sent had ∷ Heard piece ∷ []) (held ++ piece) (sends scene had standing)
+  turns : (story : List Happened) (held : List ℕ) (t : Turn) (sent : List Happened) (from to : Standing)
+      → Talking scene begun story (frame t.body ++ held) from → IsTurn scene from t sent to
+      → Talking scene begun (story ++ (sent ++ told_in t.note (reply_bytes t.reply))) held to
 
 -- it holds no whole message, and is at a read
-abbrev pub IsToRead : SessionId → Begun → List Happened → Standing → Type 0
-IsToRead session begun story last = (held : List ℕ) × Talking session begun story held last × IsPartial held
+abbrev pub IsToRead : Scene → Begun → List Happened → Standing → Type 0
+IsToRead scene begun story last = (held : List ℕ) × Talking scene begun story held last × IsPartial held
 
 -- a length stands there that no frame has
-abbrev pub HasNoMore : SessionId → Begun → List Happened → Standing → Type 0
-HasNoMore session begun story last = (held : List ℕ) × Talking session begun story held last × HasFault held
+abbrev pub HasNoMore : Scene → Begun → List Happened → Standing → Type 0
+HasNoMore scene begun story last = (held : List ℕ) × Talking scene begun story held last × HasFault held
 
 -- an ask was made of which nothing can be said: it gets no receipt and no reply
-abbrev pub HasNoReply : SessionId → Begun → List Happened → Standing → Type 0
-HasNoReply session begun story last = (body rest : List ℕ) × (from : Standing)
-    × Talking session begun story (frame body ++ rest) from × IsBody body × Says session from body saying.Behind last
+abbrev pub HasNoReply : Scene → Begun → List Happened → Standing → Type 0
+HasNoReply scene begun story last = (before : List Happened) × (body rest : List ℕ) × (sent : List Happened) × (from : Standing)
+    × Talking scene begun before (frame body ++ rest) from × IsBody body × Says scene from body sent saying.Behind last × (story ≡ before ++ sent)
 
 -- a reply could be written only in part, or not at all
-abbrev pub IsCutShort : SessionId → Begun → List Happened → Standing → Type 0
-IsCutShort session begun story last = (before : List Happened) × (t : Turn) × (from : Standing) × (rest first others : List ℕ)
-    × Talking session begun before (frame t.body ++ rest) from × IsTurn session from t last
-    × (reply_bytes t.reply ≡ first ++ others) × (story ≡ before ++ told_in t.note first)
+abbrev pub IsCutShort : Scene → Begun → List Happened → Standing → Type 0
+IsCutShort scene begun story last = (before : List Happened) × (t : Turn) × (sent : List Happened) × (from : Standing) × (rest first others : List ℕ)
+    × Talking scene begun before (frame t.body ++ rest) from × IsTurn scene from t sent last
+    × (reply_bytes t.reply ≡ first ++ others) × (story ≡ before ++ (sent ++ told_in t.note first))
 
--- what was written before could not all be sent: at a read, or where the session would have ended without that
-abbrev pub IsNotSent : SessionId → Begun → List Happened → Standing → Type 0
-IsNotSent session begun story last = IsToRead session begun story last ⊎ (HasNoMore session begun story last ⊎ HasNoReply session begun story last)
+-- what was written before could not all be sent: the message that is held may be whole, and was not asked
+abbrev pub IsNotSent : Scene → Begun → List Happened → Standing → Type 0
+IsNotSent scene begun story last = (before : List Happened) × (held : List ℕ) × Talking scene begun before held last × (story ≡ before ++ NotSent ∷ [])
+
+-- a session stood so, and then all was sent that was written
+abbrev pub IsSentOff : Scene → (List Happened → Standing → Type 0) → List Happened → Standing → Type 0
+IsSentOff scene stood story last = (before : List Happened) × (had : Bool) × (at : Standing) × stood before at × (last ≡ sends scene had at)
+    × (story ≡ before ++ Sent had ∷ [])
 
 -- how a session ends, and how its client stands then: where it holds no whole message, at a read that told the end of the input, a failed read, or its last
--- read; at a length that no frame has; at an ask of which nothing can be said; or where a write or a sending failed. Only there some of what was said may not
--- have been sent, of the replies since the last read or the last wait: in every other end all of it was
-abbrev pub Ends : SessionId → Served → Begun → List Happened → Standing → Type 0
-Ends session Ended begun story last = (before : List Happened) × IsToRead session begun before last × (story ≡ before ++ Heard [] ∷ [])
-Ends session ReadFault begun story last = IsToRead session begun story last
-Ends session TurnsUsed begun story last = IsToRead session begun story last
-Ends session Malformed begun story last = HasNoMore session begun story last
-Ends session WriteFault begun story last = IsCutShort session begun story last ⊎ IsNotSent session begun story last
-Ends session Behind begun story last = HasNoReply session begun story last
-Ends session NotOpened begun story last = ⊥
+-- read; at a length that no frame has; or at an ask of which nothing can be said. All that was written was sent then. Or it ends where a write or a sending failed,
+-- and no later one has succeeded. Only there some of what was said may not have been sent, of the replies since the last sending
+abbrev pub Ends : Scene → Served → Begun → List Happened → Standing → Type 0
+Ends scene Ended begun story last = (before : List Happened) × IsSentOff scene (IsToRead scene begun) before last × (story ≡ before ++ Heard [] ∷ [])
+Ends scene ReadFault begun story last = IsSentOff scene (IsToRead scene begun) story last
+Ends scene TurnsUsed begun story last = IsSentOff scene (IsToRead scene begun) story last
+Ends scene Malformed begun story last = IsSentOff scene (HasNoMore scene begun) story last
+Ends scene Behind begun story last = IsSentOff scene (HasNoReply scene begun) story last
+Ends scene WriteFault begun story last = IsNotSent scene begun story last ⊎ ((before : List Happened) × (story ≡ before ++ NotSent ∷ [])
+    × (IsCutShort scene begun before last ⊎ (IsNotSent scene begun before last ⊎ HasNoReply scene begun before last)))
+Ends scene NotOpened begun story last = ⊥
 
--- a wire that tells what happened on it tells of a session that began with this seat and ended so, with its client there
-abbrev pub Talked : SessionId → Served → SeatShown → Standing → WireShown → WireShown → Type 0
-Talked session served seat last old new = (begun : List Happened) → old.story ≡ Some begun
-    → (story : List Happened) × (new.story ≡ Some story) × Ends session served (record { story = begun; seat = seat }) story last
+-- a wire that tells what happened on it tells of a session that began with this seat and these means, and ended so, with its client there
+abbrev pub Talked : Scene → Served → SeatShown → Means → Standing → WireShown → WireShown → Type 0
+Talked scene served seat means last old new = (begun : List Happened) → old.story ≡ Some begun
+    → (story : List Happened) × (new.story ≡ Some story) × Ends scene served (record { story = begun; seat = seat; means = means }) story last
 
 -- a fault of the wire comes if its count rose; else the count is as before
 abbrev pub EndCounts : Served → ℕ → ℕ → Type 0
@@ -111,9 +118,9 @@ EndCounts ReadFault before after = Rose before after
 EndCounts _ before after = after ≡ before
 
 -- a session that was served: its client was opened in hall 0, there was a talk, at its end the wire keeps nothing, and the client was reported gone from where
--- it stood then; or it was shut out of hall 0, which is told, and nothing happened on the wire
-abbrev pub Serves : SessionId → Served → SeatShown → SeatShown → WireShown → WireShown → Type 0
-Serves session served seat seat' old new =
-    ((first : SeatShown) × (last : Standing) × IsOpened session Zero seat first × Talked session served first last old new × (new.kept ≡ false)
-    × HasGone session last.place.hall last.seat seat')
-    ⊎ ((served ≡ NotOpened) × (s : Saying) × IsShutOut session Zero seat seat' s × (new ≡ old))
+-- it stood then; or it was shut out of hall 0, which is told, and nothing happened on the wire, nor was anything started
+abbrev pub Serves : Scene → Served → SeatShown → SeatShown → Means → Means → WireShown → WireShown → Type 0
+Serves scene served seat seat' means means' old new =
+    ((first : SeatShown) × (last : Standing) × IsOpened scene Zero seat first × Talked scene served first means last old new × (new.kept ≡ false)
+    × HasGone scene last.place.hall last.seat seat' × (means' ≡ last.means))
+    ⊎ ((served ≡ NotOpened) × (s : Saying) × IsShutOut scene Zero seat seat' s × (new ≡ old) × (means' ≡ means))

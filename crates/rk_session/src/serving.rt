@@ -2,20 +2,25 @@
 ghost use Rattle.std.specs.Prelude.{◌≡◌, ◌≤◌, ◌+◌, [], false, length, IfOk, MatchBool};
 ghost use Rattle.rk_names.specs.declared.numbers.SessionId.TheVariants.{Client};
 ghost use Rattle.rk_devices.specs.Counts.{most, raised_by};
+ghost use Rattle.rk_child.specs.Driving.{Runs};
 ghost use Rattle.rk_talk.specs.Stays.{Stays};
 ghost use Rattle.rk_session.specs.Moving.{Moves};
 ghost use Rattle.rk_session.specs.Parts.{Hears, Parts, TakesAll};
 ghost use Rattle.rk_session.specs.Places.{at_first, standing_of};
+ghost use Rattle.rk_session.specs.Scenes.{means_of, scene_of};
 ghost use Rattle.rk_session.specs.Talk.{EndCounts, Serves, Talked};
 ghost use Rattle.rk_session.specs.Wires.{Counts};
 
+use crate::sending::flush;
 use crate::standing::{leave, open};
 use crate::turns::next_turn;
 use crate::visit::Visit;
 use crate::wire::Wire;
+use rk_devices::Gate;
 use rk_frame::{Frames, MAX_READS};
 use rk_hall::HallNo;
 use rk_talk::{Crew, Platform, Stage};
+use std::sync::Wait;
 
 /// How a session ended.
 #[derive(Clone, Copy, Debug, PartialEq, Eq)]
@@ -36,15 +41,22 @@ pub enum Served {
     Behind,
 }
 
-// Sends what is kept, and then reads: a client is not read while it lacks a reply.
-fn hear<W: Wire>(wire: &mut W, piece: &mut [u8]) -> Result<usize, Served>
+// Sends what was written, and then reads: a client is not read while it lacks a reply.
+fn hear<R: Wait, G: Gate, W: Wire>(
+    rt: &R,
+    gate: &mut G,
+    client: u32,
+    wire: &mut W,
+    piece: &mut [u8],
+) -> Result<usize, Served>
     ensures bound { IfOk result (λ n. n ≤ length piece.old) }
     ensures same { length piece.new ≡ length piece.old }
-    ensures hears { Hears result piece.new (W.shown wire.old) (W.shown wire.new) }
+    ensures hears { Hears (Client client) result piece.new (G.story gate.old) (G.story gate.new) (W.shown wire.old) (W.shown wire.new) }
 {
-    let Ok(()) = wire.send() else {
-        return Err(Served::WriteFault);
-    };
+    match flush(rt, gate, client, wire) {
+        Ok(()) => {}
+        Err(served) => return Err(served),
+    }
     match wire.read(piece) {
         Ok(0) => Err(Served::Ended),
         Ok(count) => Ok(count),
@@ -52,11 +64,17 @@ fn hear<W: Wire>(wire: &mut W, piece: &mut [u8]) -> Result<usize, Served>
     }
 }
 
-// Sends what is kept at a session's end, and tells how it ended.
-fn part<W: Wire>(wire: &mut W, served: Served) -> Served
-    ensures { Parts served result (W.shown wire.old) (W.shown wire.new) }
+// Sends what was written at a session's end, and tells how it ended.
+fn part<R: Wait, G: Gate, W: Wire>(
+    rt: &R,
+    gate: &mut G,
+    client: u32,
+    wire: &mut W,
+    served: Served,
+) -> Served
+    ensures { Parts (Client client) served result (G.story gate.old) (G.story gate.new) (W.shown wire.old) (W.shown wire.new) }
 {
-    match wire.send() {
+    match flush(rt, gate, client, wire) {
         Ok(()) => served,
         Err(_) => Served::WriteFault,
     }
@@ -70,9 +88,10 @@ fn take_all<P: Platform, W: Wire>(
     wire: &mut W,
 ) -> Result<(), Served>
     requires bound { (P.Launcher.shown crew.old.launcher).count ≤ most }
-    ensures bound { (P.Launcher.shown crew.new.launcher).count ≤ most }
-    ensures takes { TakesAll (Client visit.old.client) result (W.shown wire.old) visit.old.frames (standing_of visit.old.place crew.old.caller.seat)
-        (W.shown wire.new) visit.new.frames (standing_of visit.new.place crew.new.caller.seat) }
+    ensures runs { Runs stage.now.conf.now 1 (P.Launcher.shown crew.old.launcher) (P.Launcher.shown crew.new.launcher) }
+    ensures takes { TakesAll (scene_of stage.now.conf.now (Client visit.old.client) P.Clock.tells) result (W.shown wire.old) visit.old.frames
+        (standing_of visit.old.place crew.old.caller.seat (means_of (P.Launcher.shown crew.old.launcher) (P.Gate.story crew.old.caller.gate))) (W.shown wire.new) visit.new.frames
+        (standing_of visit.new.place crew.new.caller.seat (means_of (P.Launcher.shown crew.new.launcher) (P.Gate.story crew.new.caller.gate))) }
     ensures same { visit.new.client ≡ visit.old.client }
     ensures counts { Counts (W.shown wire.old) (W.shown wire.new) }
     ensures reads { (W.shown wire.new).reads ≡ (W.shown wire.old).reads }
@@ -97,9 +116,9 @@ fn talk<P: Platform, W: Wire>(
     requires frames { (visit.old.frames.bytes ≡ []) × (4096 ≤ visit.old.frames.room) }
     requires first { visit.old.place ≡ at_first }
     requires bound { (P.Launcher.shown crew.old.launcher).count ≤ most }
-    ensures bound { (P.Launcher.shown crew.new.launcher).count ≤ most }
-    ensures talked { Talked (Client visit.old.client) result crew.old.caller.seat (standing_of visit.new.place crew.new.caller.seat)
-        (W.shown wire.old) (W.shown wire.new) }
+    ensures runs { Runs stage.now.conf.now 1 (P.Launcher.shown crew.old.launcher) (P.Launcher.shown crew.new.launcher) }
+    ensures talked { Talked (scene_of stage.now.conf.now (Client visit.old.client) P.Clock.tells) result crew.old.caller.seat (means_of (P.Launcher.shown crew.old.launcher) (P.Gate.story crew.old.caller.gate))
+        (standing_of visit.new.place crew.new.caller.seat (means_of (P.Launcher.shown crew.new.launcher) (P.Gate.story crew.new.caller.gate))) (W.shown wire.old) (W.shown wire.new) }
     ensures fault { EndCounts result (W.shown wire.old).count (W.shown wire.new).count }
     ensures sent { (W.shown wire.new).kept ≡ false }
     ensures turns { result ≡ Served.TurnsUsed → (W.shown wire.new).reads ≡ raised_by 1048576 (W.shown wire.old).reads }
@@ -107,7 +126,13 @@ fn talk<P: Platform, W: Wire>(
     ensures moves { Moves visit.old.place.hall visit.new.place.hall crew.old.caller.seat crew.new.caller.seat }
 {
     for _ in 0..MAX_READS {
-        let count = match hear(wire, &mut crew.piece) {
+        let count = match hear(
+            stage.rt,
+            &mut crew.caller.gate,
+            visit.client,
+            wire,
+            &mut crew.piece,
+        ) {
             Ok(count) => count,
             Err(served) => return served,
         };
@@ -117,10 +142,14 @@ fn talk<P: Platform, W: Wire>(
         }
         match take_all(stage, crew, visit, wire) {
             Ok(()) => {}
-            Err(served) => return part(wire, served),
+            Err(served) => {
+                let gate = &mut crew.caller.gate;
+                return part(stage.rt, gate, visit.client, wire, served);
+            }
         }
     }
-    part(wire, Served::TurnsUsed)
+    let gate = &mut crew.caller.gate;
+    part(stage.rt, gate, visit.client, wire, Served::TurnsUsed)
 }
 
 /// Serves a session of this client to its end. A client that can't be opened gets no reply.
@@ -129,7 +158,8 @@ fn talk<P: Platform, W: Wire>(
 /// reported gone. It may wait, for locks, for outcomes and for the handlers that it has started, and holds no lock while it reads or writes.
 ///
 /// The replies of what one read has brought may go out together: the wire keeps what it likes of them, and has sent all of it before the next read, before
-/// a wait for an outcome or for a handler, and at the end.
+/// a wait for an outcome or for a handler, before a record that is full is handed out, and at the end. The gate learns of replies when they were sent. If a
+/// write or a sending fails, the session ends there: what it has started is still brought to its end, and what it waits for is left.
 pub fn serve<P: Platform, W: Wire>(
     stage: &Stage<'_, P>,
     crew: &mut Crew<P>,
@@ -139,9 +169,10 @@ pub fn serve<P: Platform, W: Wire>(
 ) -> Served
     requires frames { (frames.bytes ≡ []) × (4096 ≤ frames.room) }
     requires bound { (P.Launcher.shown crew.old.launcher).count ≤ most }
-    ensures bound { (P.Launcher.shown crew.new.launcher).count ≤ most }
+    ensures runs { Runs stage.now.conf.now 1 (P.Launcher.shown crew.old.launcher) (P.Launcher.shown crew.new.launcher) }
     ensures stays { Stays crew.old.caller.seat crew.new.caller.seat }
-    ensures talked { Serves (Client client) result crew.old.caller.seat crew.new.caller.seat (W.shown wire.old) (W.shown wire.new) }
+    ensures talked { Serves (scene_of stage.now.conf.now (Client client) P.Clock.tells) result crew.old.caller.seat crew.new.caller.seat
+        (means_of (P.Launcher.shown crew.old.launcher) (P.Gate.story crew.old.caller.gate)) (means_of (P.Launcher.shown crew.new.launcher) (P.Gate.story crew.new.caller.gate)) (W.shown wire.old) (W.shown wire.new) }
     ensures fault { EndCounts result (W.shown wire.old).count (W.shown wire.new).count }
     ensures turns { result ≡ Served.TurnsUsed → (W.shown wire.new).reads ≡ raised_by 1048576 (W.shown wire.old).reads }
     ensures reads { (W.shown wire.new).reads ≤ (W.shown wire.old).reads + 1048576 }

@@ -5,6 +5,7 @@ ghost use Rattle.rk_record.specs.declared.told.ToldOf.TheVariants as told;
 ghost use Rattle.rk_talk.specs.Stays.{Stays};
 ghost use Rattle.rk_session.specs.Opening.{HasGone, Refuses};
 ghost use Rattle.rk_session.specs.Moving.{HasMoved, HasOpened};
+ghost use Rattle.rk_session.specs.Scenes.{scene_of};
 
 use rk_child::spend;
 use rk_devices::Clock;
@@ -41,7 +42,8 @@ pub fn open<P: Platform>(
     hall: HallNo,
     client: u32,
 ) -> Option<Saying<'static>>
-    ensures { HasOpened (Client client) hall caller.old.seat caller.new.seat result }
+    ensures opened { HasOpened (scene_of stage.now.conf.now (Client client) P.Clock.tells) hall caller.old.seat caller.new.seat result }
+    ensures gate { P.Gate.story caller.new.gate ≡ P.Gate.story caller.old.gate }
 {
     let now = caller.clock.now();
     let session = SessionId::Client(client);
@@ -62,7 +64,8 @@ pub fn leave<P: Platform>(
     client: u32,
 ) -> Result<ReceiptView<'static>, Lapse>
     ensures gone { IfOk result (λ r. (r.hall ≡ hall) × (r.told ≡ told.Gone (Client client))) }
-    ensures left { HasGone (Client client) hall caller.old.seat caller.new.seat }
+    ensures left { HasGone (scene_of stage.now.conf.now (Client client) P.Clock.tells) hall caller.old.seat caller.new.seat }
+    ensures gate { P.Gate.story caller.new.gate ≡ P.Gate.story caller.old.gate }
 {
     let now = caller.clock.now();
     let session = SessionId::Client(client);
@@ -84,7 +87,8 @@ pub fn moved<P: Platform>(
     there: HallNo,
     client: u32,
 ) -> Option<Saying<'static>>
-    ensures { HasMoved (Client client) here there caller.old.seat caller.new.seat result }
+    ensures moved { HasMoved (scene_of stage.now.conf.now (Client client) P.Clock.tells) here there caller.old.seat caller.new.seat result }
+    ensures gate { P.Gate.story caller.new.gate ≡ P.Gate.story caller.old.gate }
 {
     if there == here {
         return None;

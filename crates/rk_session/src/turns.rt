@@ -1,22 +1,25 @@
 //! Messages with their replies.
-ghost use Rattle.std.specs.Prelude.{◌≡◌, ◌≤◌, ℕ, List, false};
+ghost use Rattle.std.specs.Prelude.{◌≡◌, ◌≤◌, ℕ, List, [], false};
 ghost use Rattle.rk_names.specs.declared.numbers.SessionId.TheVariants.{Client};
 ghost use Rattle.rk_devices.specs.Counts.{most};
 ghost use Rattle.rk_message.specs.Bodies.{Spells};
+ghost use Rattle.rk_child.specs.Driving.{Runs};
 ghost use Rattle.rk_talk.specs.Said.{IsAnswered, IsRefusal, IsSettled, IsToWait};
 ghost use Rattle.rk_talk.specs.Stays.{Stays};
 ghost use Rattle.rk_talk.specs.declared.saying.Saying.TheVariants as saying;
 ghost use Rattle.rk_session.specs.Moving.{Moves};
 ghost use Rattle.rk_session.specs.Parts.{Finishes, IsSaid, Speaks, TurnEnds, TakesOne, ended};
 ghost use Rattle.rk_session.specs.Places.{IsHelloOf, standing_of};
+ghost use Rattle.rk_session.specs.Scenes.{Meets, means_of, scene_of};
 ghost use Rattle.rk_session.specs.Wires.{Counts};
 
 use crate::answering::{Hello, admitted, asked, awaited, hall_of_hello, waits};
+use crate::sending::flush;
 use crate::serving::Served;
 use crate::standing::Place;
 use crate::visit::Visit;
 use crate::wire::Wire;
-use rk_devices::{Clock, DeviceFault, Gate};
+use rk_devices::{Clock, DeviceFault};
 use rk_frame::Next;
 use rk_hall::{CallFault, Called, HallNo, ReceiptView};
 use rk_message::AskView;
@@ -56,40 +59,27 @@ fn refuse<W: Wire>(wire: &mut W, errno: Errno) -> Result<(), DeviceFault>
     wire.write(&refusal_frame(errno))
 }
 
-// Tells the gate of a reply that was written. A write that failed ends the session.
+// A write that failed ends the session.
 #[inline(always)]
-fn written<P: Platform>(
-    stage: &Stage<'_, P>,
-    client: u32,
-    reply: Result<(), DeviceFault>,
-) -> Result<(), Served>
+fn written(reply: Result<(), DeviceFault>) -> Result<(), Served>
     ensures { result ≡ ended reply }
 {
     match reply {
-        Ok(()) => {
-            stage.gate.answered(stage.rt, SessionId::Client(client));
-            Ok(())
-        }
+        Ok(()) => Ok(()),
         Err(_) => Err(Served::WriteFault),
     }
 }
 
 // Says what is to be said.
-fn say<P: Platform, W: Wire>(
-    stage: &Stage<'_, P>,
-    buffer: &mut Vec<u8>,
-    wire: &mut W,
-    client: u32,
-    saying: Saying<'_>,
-) -> Result<(), Served>
+fn say<W: Wire>(buffer: &mut Vec<u8>, wire: &mut W, saying: Saying<'_>) -> Result<(), Served>
     requires { IsSettled saying }
     ensures speaks { Speaks saying.entry result (W.shown wire.old).story (W.shown wire.new) }
     ensures counts { Counts (W.shown wire.old) (W.shown wire.new) }
     ensures reads { (W.shown wire.new).reads ≡ (W.shown wire.old).reads }
 {
     match saying {
-        Saying::Noted(receipt) => written(stage, client, tell(buffer, wire, &receipt)),
-        Saying::Short(errno) => written(stage, client, refuse(wire, errno)),
+        Saying::Noted(receipt) => written(tell(buffer, wire, &receipt)),
+        Saying::Short(errno) => written(refuse(wire, errno)),
         Saying::Behind => Err(Served::Behind),
     }
 }
@@ -106,35 +96,31 @@ fn say_awaited<P: Platform, W: Wire>(
     wire: &mut W,
 ) -> Result<(), Served>
     requires bound { (P.Launcher.shown crew.old.launcher).count ≤ most }
-    ensures bound { (P.Launcher.shown crew.new.launcher).count ≤ most }
-    ensures said { IsSaid (Finishes hall (Client client) called.entry.receipt called.entry.launch crew.old.caller.seat crew.new.caller.seat) result
-        (W.shown wire.old) (W.shown wire.new) }
+    ensures runs { Runs stage.now.conf.now 1 (P.Launcher.shown crew.old.launcher) (P.Launcher.shown crew.new.launcher) }
+    ensures said { IsSaid (Finishes (scene_of stage.now.conf.now (Client client) P.Clock.tells) hall called.entry.receipt called.entry.launch crew.old.caller.seat
+        crew.new.caller.seat (means_of (P.Launcher.shown crew.old.launcher) (P.Gate.story crew.old.caller.gate))
+        (means_of (P.Launcher.shown crew.new.launcher) (P.Gate.story crew.new.caller.gate))) ⊥ result (W.shown wire.old) (W.shown wire.new) }
     ensures stays { Stays crew.old.caller.seat crew.new.caller.seat }
     ensures counts { Counts (W.shown wire.old) (W.shown wire.new) }
     ensures reads { (W.shown wire.new).reads ≡ (W.shown wire.old).reads }
 {
     let saying = awaited(stage, crew, hall, client, called, wire);
-    say(stage, &mut crew.reply, wire, client, saying)
+    say(&mut crew.reply, wire, saying)
 }
 
 // Says what is to be said of an ask whose call was refused.
 #[cold]
 #[inline(never)]
-fn say_refused<P: Platform, W: Wire>(
-    stage: &Stage<'_, P>,
-    buffer: &mut Vec<u8>,
-    wire: &mut W,
-    client: u32,
-    fault: CallFault,
-) -> Result<(), Served>
-    ensures said { IsSaid (IsRefusal fault) result (W.shown wire.old) (W.shown wire.new) }
+fn say_refused<W: Wire>(buffer: &mut Vec<u8>, wire: &mut W, fault: CallFault) -> Result<(), Served>
+    ensures said { IsSaid (λ sent s. (sent ≡ []) × IsRefusal fault s) ⊥ result (W.shown wire.old) (W.shown wire.new) }
     ensures counts { Counts (W.shown wire.old) (W.shown wire.new) }
     ensures reads { (W.shown wire.new).reads ≡ (W.shown wire.old).reads }
 {
-    say(stage, buffer, wire, client, refused(fault))
+    say(buffer, wire, refused(fault))
 }
 
-// Makes the ask once more, since the record of this hall was full, and says what is to be said of it.
+// Makes an ask whose call was refused, since the record of this hall was full, and says what is to be said of it. What was written is sent first: the record's
+// volume goes to the shelf, which may take long.
 #[cold]
 #[inline(never)]
 fn ask_again<'a, P: Platform, W: Wire>(
@@ -146,15 +132,23 @@ fn ask_again<'a, P: Platform, W: Wire>(
     wire: &mut W,
 ) -> Result<(), Served>
     requires bound { (P.Launcher.shown crew.old.launcher).count ≤ most }
-    ensures bound { (P.Launcher.shown crew.new.launcher).count ≤ most }
-    ensures said { IsSaid (IsAnswered (Client client) hall ask.now crew.old.caller.seat crew.new.caller.seat) result
-        (W.shown wire.old) (W.shown wire.new) }
+    ensures runs { Runs stage.now.conf.now 1 (P.Launcher.shown crew.old.launcher) (P.Launcher.shown crew.new.launcher) }
+    ensures said { IsSaid (λ sent s. IsAnswered P.Clock.tells (Meets (scene_of stage.now.conf.now (Client client) P.Clock.tells) sent
+        (means_of (P.Launcher.shown crew.old.launcher) (P.Gate.story crew.old.caller.gate))
+        (means_of (P.Launcher.shown crew.new.launcher) (P.Gate.story crew.new.caller.gate))) (Client client) hall ask.now crew.old.caller.seat crew.new.caller.seat s)
+        ((crew.new.caller.seat ≡ crew.old.caller.seat)
+        × ((means_of (P.Launcher.shown crew.new.launcher) (P.Gate.story crew.new.caller.gate))
+        ≡ (means_of (P.Launcher.shown crew.old.launcher) (P.Gate.story crew.old.caller.gate)))) result (W.shown wire.old) (W.shown wire.new) }
     ensures stays { Stays crew.old.caller.seat crew.new.caller.seat }
     ensures counts { Counts (W.shown wire.old) (W.shown wire.new) }
     ensures reads { (W.shown wire.new).reads ≡ (W.shown wire.old).reads }
 {
+    match flush(stage.rt, &mut crew.caller.gate, client, wire) {
+        Ok(()) => {}
+        Err(served) => return Err(served),
+    }
     let saying = asked(stage, crew, hall, client, ask, wire);
-    say(stage, &mut crew.reply, wire, client, saying)
+    say(&mut crew.reply, wire, saying)
 }
 
 // Makes the ask in this hall, and says what is to be said of it. Most asks start nothing and wait for nothing: their receipt is told where it lies.
@@ -168,9 +162,13 @@ fn ask_here<'a, P: Platform, W: Wire>(
     wire: &mut W,
 ) -> Result<(), Served>
     requires bound { (P.Launcher.shown crew.old.launcher).count ≤ most }
-    ensures bound { (P.Launcher.shown crew.new.launcher).count ≤ most }
-    ensures said { IsSaid (IsAnswered (Client client) hall ask.now crew.old.caller.seat crew.new.caller.seat) result
-        (W.shown wire.old) (W.shown wire.new) }
+    ensures runs { Runs stage.now.conf.now 1 (P.Launcher.shown crew.old.launcher) (P.Launcher.shown crew.new.launcher) }
+    ensures said { IsSaid (λ sent s. IsAnswered P.Clock.tells (Meets (scene_of stage.now.conf.now (Client client) P.Clock.tells) sent
+        (means_of (P.Launcher.shown crew.old.launcher) (P.Gate.story crew.old.caller.gate))
+        (means_of (P.Launcher.shown crew.new.launcher) (P.Gate.story crew.new.caller.gate))) (Client client) hall ask.now crew.old.caller.seat crew.new.caller.seat s)
+        ((crew.new.caller.seat ≡ crew.old.caller.seat)
+        × ((means_of (P.Launcher.shown crew.new.launcher) (P.Gate.story crew.new.caller.gate))
+        ≡ (means_of (P.Launcher.shown crew.old.launcher) (P.Gate.story crew.old.caller.gate)))) result (W.shown wire.old) (W.shown wire.new) }
     ensures stays { Stays crew.old.caller.seat crew.new.caller.seat }
     ensures counts { Counts (W.shown wire.old) (W.shown wire.new) }
     ensures reads { (W.shown wire.new).reads ≡ (W.shown wire.old).reads }
@@ -184,12 +182,12 @@ fn ask_here<'a, P: Platform, W: Wire>(
         Ok(Called { receipt, launch }) => match launch {
             None if !waits(receipt.answer()) => {
                 let reply = tell(&mut crew.reply, wire, &receipt);
-                written(stage, client, reply)
+                written(reply)
             }
             launch => say_awaited(stage, crew, hall, client, Called { receipt, launch }, wire),
         },
         Err(CallFault::Full) => ask_again(stage, crew, hall, client, ask, wire),
-        Err(fault) => say_refused(stage, &mut crew.reply, wire, client, fault),
+        Err(fault) => say_refused(&mut crew.reply, wire, fault),
     }
 }
 
@@ -206,15 +204,18 @@ fn greet<P: Platform, W: Wire>(
 ) -> Result<(), Served>
     requires bound { (P.Launcher.shown crew.old.launcher).count ≤ most }
     requires first { (place.old.greeted ≡ false) × IsHelloOf hello.hall hello.ask.now }
-    ensures bound { (P.Launcher.shown crew.new.launcher).count ≤ most }
-    ensures ends { (body : List ℕ) → Spells hello.entry.ask.now body → TurnEnds (Client client) (standing_of place.old crew.old.caller.seat) body
-        (standing_of place.new crew.new.caller.seat) result (W.shown wire.old) (W.shown wire.new) }
+    ensures runs { Runs stage.now.conf.now 1 (P.Launcher.shown crew.old.launcher) (P.Launcher.shown crew.new.launcher) }
+    ensures ends { (body : List ℕ) → Spells hello.entry.ask.now body → TurnEnds (scene_of stage.now.conf.now (Client client) P.Clock.tells)
+        (standing_of place.old crew.old.caller.seat (means_of (P.Launcher.shown crew.old.launcher) (P.Gate.story crew.old.caller.gate))) body
+        (standing_of place.new crew.new.caller.seat (means_of (P.Launcher.shown crew.new.launcher) (P.Gate.story crew.new.caller.gate))) result (W.shown wire.old) (W.shown wire.new) }
     ensures counts { Counts (W.shown wire.old) (W.shown wire.new) }
     ensures reads { (W.shown wire.new).reads ≡ (W.shown wire.old).reads }
     ensures moves { Moves place.old.hall place.new.hall crew.old.caller.seat crew.new.caller.seat }
 {
-    let saying = admitted(stage, crew, client, place, hello, wire);
-    say(stage, &mut crew.reply, wire, client, saying)
+    match admitted(stage, crew, client, place, hello, wire) {
+        Ok(saying) => say(&mut crew.reply, wire, saying),
+        Err(served) => Err(served),
+    }
 }
 
 // One message: its ask is made where the client stands, or that of a HELLO in the hall of its uid, and what is to be said of it is said.
@@ -227,9 +228,10 @@ fn turn<P: Platform, W: Wire>(
     wire: &mut W,
 ) -> Result<(), Served>
     requires bound { (P.Launcher.shown crew.old.launcher).count ≤ most }
-    ensures bound { (P.Launcher.shown crew.new.launcher).count ≤ most }
-    ensures ends { TurnEnds (Client client) (standing_of place.old crew.old.caller.seat) body.now (standing_of place.new crew.new.caller.seat) result
-        (W.shown wire.old) (W.shown wire.new) }
+    ensures runs { Runs stage.now.conf.now 1 (P.Launcher.shown crew.old.launcher) (P.Launcher.shown crew.new.launcher) }
+    ensures ends { TurnEnds (scene_of stage.now.conf.now (Client client) P.Clock.tells)
+        (standing_of place.old crew.old.caller.seat (means_of (P.Launcher.shown crew.old.launcher) (P.Gate.story crew.old.caller.gate))) body.now
+        (standing_of place.new crew.new.caller.seat (means_of (P.Launcher.shown crew.new.launcher) (P.Gate.story crew.new.caller.gate))) result (W.shown wire.old) (W.shown wire.new) }
     ensures counts { Counts (W.shown wire.old) (W.shown wire.new) }
     ensures reads { (W.shown wire.new).reads ≡ (W.shown wire.old).reads }
     ensures moves { Moves place.old.hall place.new.hall crew.old.caller.seat crew.new.caller.seat }
@@ -239,7 +241,7 @@ fn turn<P: Platform, W: Wire>(
             None => ask_here(stage, crew, place.hall, client, ask, wire),
             Some(hall) => greet(stage, crew, client, place, Hello { hall, ask }, wire),
         },
-        Err(fault) => written(stage, client, refuse(wire, fault.errno())),
+        Err(fault) => written(refuse(wire, fault.errno())),
     }
 }
 
@@ -251,9 +253,10 @@ pub fn next_turn<P: Platform, W: Wire>(
     wire: &mut W,
 ) -> Result<bool, Served>
     requires bound { (P.Launcher.shown crew.old.launcher).count ≤ most }
-    ensures bound { (P.Launcher.shown crew.new.launcher).count ≤ most }
-    ensures takes { TakesOne (Client visit.old.client) result (W.shown wire.old) visit.old.frames (standing_of visit.old.place crew.old.caller.seat)
-        (W.shown wire.new) visit.new.frames (standing_of visit.new.place crew.new.caller.seat) }
+    ensures runs { Runs stage.now.conf.now 1 (P.Launcher.shown crew.old.launcher) (P.Launcher.shown crew.new.launcher) }
+    ensures takes { TakesOne (scene_of stage.now.conf.now (Client visit.old.client) P.Clock.tells) result (W.shown wire.old) visit.old.frames
+        (standing_of visit.old.place crew.old.caller.seat (means_of (P.Launcher.shown crew.old.launcher) (P.Gate.story crew.old.caller.gate))) (W.shown wire.new) visit.new.frames
+        (standing_of visit.new.place crew.new.caller.seat (means_of (P.Launcher.shown crew.new.launcher) (P.Gate.story crew.new.caller.gate))) }
     ensures same { visit.new.client ≡ visit.old.client }
     ensures counts { Counts (W.shown wire.old) (W.shown wire.new) }
     ensures reads { (W.shown wire.new).reads ≡ (W.shown wire.old).reads }

@@ -5,11 +5,11 @@ ghost use Rattle.rk_session.specs.Wires.{WireShown, Reads, Writes, Sends, Notes}
 use rk_devices::DeviceFault;
 use rk_hall::ReceiptView;
 
-/// The stream of a client, both ways. It may tell what happens on it, as a test's does; a socket's tells only its counts, and whether it keeps something.
+/// The stream of a client, both ways. It may tell what happens on it, as a test's does; a socket's tells only its counts, and whether something is to be sent.
 ///
 /// What is written may be kept, so that many replies go out together. [`serve`](crate::serve) has it sent before each read, before each wait, and at the end.
 pub trait Wire {
-    /// Its failures, its reads, whether it keeps something, whether it is cut, and what happened on it.
+    /// Its failures, its reads, whether anything was written since it was sent, whether it is cut, and what happened on it.
     ghost shown: { Self → WireShown };
 
     /// Reads bytes to the front of `buf`, and tells how many; 0 is the end of the input. What was written is sent before.
@@ -23,8 +23,8 @@ pub trait Wire {
     fn write(&mut self, bytes: &[u8]) -> Result<(), DeviceFault>
         ensures { Writes result bytes.now (shown self.old) (shown self.new) };
 
-    /// Sends what was written and is still kept.
-    fn send(&mut self) -> Result<(), DeviceFault>
+    /// Sends what was written and is still kept. Whether anything was written since the sending before, also if none of it was kept.
+    fn send(&mut self) -> Result<bool, DeviceFault>
         ensures { Sends result (shown self.old) (shown self.new) };
 
     /// Is shown the receipt of a reply before that is written.
