@@ -41,6 +41,8 @@ impl<'a, R: time::Clock> Seconds<'a, R> {
 }
 
 impl<'a, R: time::Clock> Clock for Seconds<'a, R> {
+    ghost tells = { λ moment. Unit {0} };
+
     /// The moment now; that of the last call if the clock can't be read.
     fn now(&mut self) -> Moment {
         let passed = match self.start.elapsed(self.rt) {

@@ -1,4 +1,5 @@
 //! What is done between a session's asks.
+ghost use Rattle.std.specs.Prelude.{None};
 
 use crate::ending::{End, error_number, level_of};
 use crate::handlers::Handlers;
@@ -24,10 +25,10 @@ const MOST: u64 = 16 << 20;
 /// What a handler is counted as, whose asks and output are not seen here: the bytes of the longest payload.
 const HANDLER: u64 = 32_767;
 
-/// The gate of the daemon: it holds nobody. After each reply, the volume of a hall whose record holds much goes to the shelf. How a handler has ended is
+/// The gate of the daemon: it holds nobody. After replies were sent, the volume of a hall whose record holds much goes to the shelf. How a handler has ended is
 /// logged, so that an operator learns why a request was answered ENOKEY.
 #[derive(Drop)]
-pub struct Relief<'a, R, N: Names, S: Shelf> {
+pub struct Relief<'a, R, N: Names, S: Shelf<N>> {
     /// Where memory for the lines of the log comes from.
     alloc: Global,
     /// Where it warns of handlers.
@@ -44,7 +45,7 @@ pub struct Relief<'a, R, N: Names, S: Shelf> {
     shelf: &'a S,
 }
 
-impl<'a, R, N: Names, S: Shelf> Relief<'a, R, N, S> {
+impl<'a, R, N: Names, S: Shelf<N>> Relief<'a, R, N, S> {
     /// A gate that warns by this log, and relieves the halls of what all workers share.
     pub fn new(
         alloc: Global,
@@ -64,7 +65,7 @@ impl<'a, R, N: Names, S: Shelf> Relief<'a, R, N, S> {
     }
 }
 
-impl<'a, R: Wait + Eprint + Clock, N: Names, S: Shelf> Relief<'a, R, N, S> {
+impl<'a, R: Wait + Eprint + Clock, N: Names, S: Shelf<N>> Relief<'a, R, N, S> {
     /// What a handler was started for, as the log says it. Out of memory, it is nothing.
     fn purpose(&self, subject: &Subject) -> String {
         let line = line_for(self.conf, Some(subject));
@@ -77,8 +78,10 @@ impl<'a, R: Wait + Eprint + Clock, N: Names, S: Shelf> Relief<'a, R, N, S> {
     /// Hands out the volume of a hall. One that can't be handed out, since all of it is owed, is tried again once as much has come.
     #[cold]
     fn relieve<W: Wait>(&self, rt: &W, hall: HallNo) {
-        if let Ok(volume) = self.halls.roll(rt, hall) {
-            self.shelf.put(rt, &volume);
+        let Ok(volume) = self.halls.roll(rt, hall) else {
+            return;
+        };
+        if let Some(volume) = self.shelf.put(rt, volume) {
             self.halls.take_back(rt, volume);
         }
     }
@@ -95,14 +98,16 @@ impl<'a, R: Wait + Eprint + Clock, N: Names, S: Shelf> Relief<'a, R, N, S> {
     }
 }
 
-impl<'a, E: Wait + Eprint + Clock, N: Names, S: Shelf> Gate for Relief<'a, E, N, S> {
-    fn started<R: Wait>(&self, rt: &R, key: Serial, subject: &Subject) {
+impl<'a, E: Wait + Eprint + Clock, N: Names, S: Shelf<N>> Gate for Relief<'a, E, N, S> {
+    ghost story = { λ gate. None };
+
+    fn started<R: Wait>(&mut self, rt: &R, key: Serial, subject: &Subject) {
         self.held.add(HallNo::of_serial(key), HANDLER);
         let purpose = self.purpose(subject);
         self.handlers.start(rt, key, purpose, self.log.seconds());
     }
 
-    fn driven<R: Wait>(&self, rt: &R, report: Report<'_>) {
+    fn driven<R: Wait>(&mut self, rt: &R, report: Report<'_>) {
         let Report {
             key,
             subject,
@@ -127,8 +132,7 @@ impl<'a, E: Wait + Eprint + Clock, N: Names, S: Shelf> Gate for Relief<'a, E, N,
         self.tell(level, &end);
     }
 
-    #[inline(always)]
-    fn answered<R: Wait>(&self, rt: &R, _session: SessionId) {
+    fn answered<R: Wait>(&mut self, rt: &R, _session: SessionId) {
         for hall in HallNo::ALL {
             if self.held.is_over(hall, MOST) {
                 self.relieve(rt, hall);

@@ -1,5 +1,5 @@
 //! Where the daemon's volumes go.
-ghost use Rattle.std.specs.Prelude.{None};
+ghost use Rattle.std.specs.Prelude.{◌≡◌, IfSome, None};
 
 use crate::bindery::Bindery;
 use crate::binding::{bind, head_of};
@@ -78,11 +78,14 @@ impl<'a, R: Eprint + Log + Keeper> Outlet<'a, R> {
     }
 }
 
-impl<'a, E: Eprint + Log + Keeper> Shelf for Outlet<'a, E> {
-    /// Counts a volume, which was full of steps or of bytes. One that can't be written is a warning; then the record lacks it.
-    fn put<N: Names, R: Wait>(&self, rt: &R, volume: &Volume<N>) {
+impl<'a, N: Names, E: Eprint + Log + Keeper> Shelf<N> for Outlet<'a, E> {
+    /// Counts a volume, which was full of steps or of bytes, and writes it. One that can't be written is a warning; then the record lacks it.
+    fn put<R: Wait>(&self, rt: &R, volume: Volume<N>) -> Option<Volume<N>>
+        ensures { IfSome result (λ kept. kept ≡ volume) }
+    {
         self.held.roll();
-        self.hand_out(rt, volume, false);
+        self.hand_out(rt, &volume, false);
+        Some(volume)
     }
 }
 

@@ -1,11 +1,11 @@
 //! The wire of a client over a socket.
-ghost use Rattle.std.specs.Prelude.{◌≡◌, ◌≤◌, ◌+◌, ◌*◌, ◌==◌, ◌↔◌, IsTrue, not, None, true, false, length, option_map, vec_len, vec_capacity};
+ghost use Rattle.std.specs.Prelude.{◌≡◌, ◌≤◌, ◌+◌, ◌*◌, ◌==◌, ◌↔◌, IsTrue, None, OnOk, OnErr, true, false, length, option_map, vec_len, vec_capacity};
 ghost use Rattle.std.specs.Prelude.{if◌then◌else◌};
 ghost use Rattle.std.specs.Duration.{as_nanos};
 ghost use Rattle.std.specs.IoError.{error_kind};
 ghost use Rattle.rk_daemon.specs.Lull.{fresh};
 ghost use Rattle.rk_devices.specs.Counts.{Rose, raised};
-ghost use Rattle.rk_session.specs.Wires.{Sends, Writes};
+ghost use Rattle.rk_session.specs.Wires.{Writes};
 
 use crate::hearing::{hear, send};
 use crate::held::{Held, taken_by};
@@ -51,6 +51,8 @@ pub struct Socket<'a, R> {
     held: &'a Held,
     /// The replies that are kept.
     kept: Vec<u8>,
+    /// Whether anything was written since the last sending, also if none of it is kept.
+    owes: bool,
     /// Whether a write or a sending has failed, after which nothing is written.
     cut: bool,
     /// How many calls have failed.
@@ -98,6 +100,7 @@ impl<'a, R: Wait + Clock> Socket<'a, R> {
             lull: Lull::new(0),
             held,
             kept: Vec::new(alloc),
+            owes: false,
             cut: false,
             failed: 0,
             reads: 0,
@@ -134,7 +137,7 @@ impl<'a, R: Wait + Clock> Socket<'a, R> {
     fn fault(&mut self) -> DeviceFault
         ensures count { self.new.failed ≡ raised self.old.failed }
         ensures rose { Rose self.old.failed self.new.failed }
-        ensures same { (self.new.reads ≡ self.old.reads) × (self.new.cut ≡ self.old.cut) × (vec_len self.new.kept ≡ vec_len self.old.kept) }
+        ensures same { (self.new.reads ≡ self.old.reads) × (self.new.cut ≡ self.old.cut) × (self.new.owes ≡ self.old.owes) }
     {
         self.failed = one_more(self.failed);
         DeviceFault
@@ -145,18 +148,19 @@ impl<'a, R: Wait + Clock> Socket<'a, R> {
         ensures count { self.new.failed ≡ raised self.old.failed }
         ensures rose { Rose self.old.failed self.new.failed }
         ensures reads { self.new.reads ≡ self.old.reads }
-        ensures cut { (self.new.cut ≡ true) × (vec_len self.new.kept ≡ 0) }
+        ensures cut { (self.new.cut ≡ true) × (self.new.owes ≡ false) }
     {
         self.cut = true;
+        self.owes = false;
         self.kept.clear();
         self.fault()
     }
 
-    /// What a sending of all that is kept came to.
+    /// What a write of bytes to the line came to.
     fn outcome(&mut self, sent: io::Result<()>) -> Result<(), DeviceFault>
-        requires whole { self.old.cut ≡ false }
-        requires empty { vec_len self.old.kept ≡ 0 }
-        ensures { Sends result (⟦<Socket<'a, R> as Wire>⟧.shown self.old) (⟦<Socket<'a, R> as Wire>⟧.shown self.new) }
+        ensures ok { OnOk result (self.new ≡ self.old) }
+        ensures err { OnErr result ((self.new.failed ≡ raised self.old.failed) × (self.new.reads ≡ self.old.reads) × (self.new.cut ≡ true) × (self.new.owes ≡ false)) }
+        ensures rose { OnErr result (Rose self.old.failed self.new.failed) }
     {
         match sent {
             Ok(()) => Ok(()),
@@ -169,10 +173,21 @@ impl<'a, R: Wait + Clock> Socket<'a, R> {
         }
     }
 
+    /// Writes what is kept to the line, and keeps it no longer.
+    fn empty(&mut self) -> Result<(), DeviceFault>
+        ensures ok { OnOk result ((self.new.failed ≡ self.old.failed) × (self.new.reads ≡ self.old.reads) × (self.new.cut ≡ self.old.cut) × (self.new.owes ≡ self.old.owes)) }
+        ensures err { OnErr result ((self.new.reads ≡ self.old.reads) × (self.new.cut ≡ true) × (self.new.owes ≡ false)) }
+        ensures rose { OnErr result (Rose self.old.failed self.new.failed) }
+    {
+        let sent = send(self.rt, &mut self.line, self.patience, &self.kept);
+        self.kept.clear();
+        self.outcome(sent)
+    }
+
     /// Keeps bytes for which there is room.
     fn keep(&mut self, bytes: &[u8])
         requires { vec_len self.old.kept + length bytes.now ≤ vec_capacity self.old.kept }
-        ensures { (self.new.cut ≡ self.old.cut) × (self.new.failed ≡ self.old.failed) × (self.new.reads ≡ self.old.reads) }
+        ensures { (self.new.cut ≡ self.old.cut) × (self.new.failed ≡ self.old.failed) × (self.new.reads ≡ self.old.reads) × (self.new.owes ≡ self.old.owes) }
     {
         match self.kept.extend_from_slice(bytes) {
             Ok(()) => {}
@@ -180,12 +195,13 @@ impl<'a, R: Wait + Clock> Socket<'a, R> {
         }
     }
 
-    /// Sends what is kept, so that there is room, and keeps these bytes; they are sent, too, where they are longer than all of it.
+    /// Writes what is kept to the line, so that there is room, and keeps these bytes; they are written, too, where they are longer than all of it.
     fn write_anew(&mut self, bytes: &[u8]) -> Result<(), DeviceFault>
-        requires { self.old.cut ≡ false }
+        requires cut { self.old.cut ≡ false }
+        requires owes { self.old.owes ≡ true }
         ensures { Writes result bytes.now (⟦<Socket<'a, R> as Wire>⟧.shown self.old) (⟦<Socket<'a, R> as Wire>⟧.shown self.new) }
     {
-        match self.send() {
+        match self.empty() {
             Ok(()) => {}
             Err(fault) => return Err(fault),
         }
@@ -199,7 +215,7 @@ impl<'a, R: Wait + Clock> Socket<'a, R> {
 }
 
 impl<'a, R: Wait + Clock> Wire for Socket<'a, R> {
-    ghost shown = { λ s. record { count = s.failed; reads = s.reads; kept = not (vec_len s.kept == 0); cut = s.cut; story = None } };
+    ghost shown = { λ s. record { count = s.failed; reads = s.reads; kept = s.owes; cut = s.cut; story = None } };
 
     fn read(&mut self, buf: &mut [u8]) -> Result<usize, DeviceFault> {
         self.reads = one_more(self.reads);
@@ -220,6 +236,7 @@ impl<'a, R: Wait + Clock> Wire for Socket<'a, R> {
         if self.cut {
             return Err(self.sever());
         }
+        self.owes = true;
         if bytes.len() > self.kept.capacity() - self.kept.len() {
             return self.write_anew(bytes);
         }
@@ -227,13 +244,19 @@ impl<'a, R: Wait + Clock> Wire for Socket<'a, R> {
         Ok(())
     }
 
-    fn send(&mut self) -> Result<(), DeviceFault> {
+    fn send(&mut self) -> Result<bool, DeviceFault> {
         if self.cut {
             return Err(self.sever());
         }
-        let sent = send(self.rt, &mut self.line, self.patience, &self.kept);
-        self.kept.clear();
-        self.outcome(sent)
+        if !self.owes {
+            return Ok(false);
+        }
+        match self.empty() {
+            Ok(()) => {}
+            Err(fault) => return Err(fault),
+        }
+        self.owes = false;
+        Ok(true)
     }
 
     #[inline(always)]

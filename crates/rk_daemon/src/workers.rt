@@ -136,7 +136,7 @@ fn serve_clients<'a, N: Names, R: Wait + Processes + Clock + Eprint + Keeper>(
     rt: &'a R,
     alloc: Global,
     shared: &'a Shared<N>,
-    gate: &'a Relief<'a, R, N, Outlet<'a, Reporter<'a, R>>>,
+    gate: Relief<'a, R, N, Outlet<'a, Reporter<'a, R>>>,
     shelf: &'a Outlet<'a, Reporter<'a, R>>,
     clients: &Receiver<Client>,
 ) {
@@ -148,7 +148,6 @@ fn serve_clients<'a, N: Names, R: Wait + Processes + Clock + Eprint + Keeper>(
         alloc,
         halls: &shared.halls,
         conf: &shared.conf,
-        gate,
         shelf,
     };
     let keyutils = shared.keyutils.as_ref().map(|path| path.as_str());
@@ -156,6 +155,7 @@ fn serve_clients<'a, N: Names, R: Wait + Processes + Clock + Eprint + Keeper>(
         caller: Caller {
             seat,
             clock: Seconds::since(rt, shared.start),
+            gate,
         },
         launcher: Programs::new(rt, alloc, keyutils),
         piece: [0; MAX_PIECE],
@@ -178,9 +178,10 @@ fn serve_clients<'a, N: Names, R: Wait + Processes + Clock + Eprint + Keeper>(
         piece: _,
         reply: _,
     } = crew;
-    let Caller { seat, clock } = caller;
+    let Caller { seat, clock, gate } = caller;
     drop(launcher);
     drop(clock);
+    drop(gate);
     shared.halls.retire(rt, seat);
 }
 
@@ -194,7 +195,7 @@ fn work<N: Names, R: Wait + Processes + Clock + Eprint + Keeper>(
     let log = Reporter::new(rt, &shared.log);
     let shelf = shared.shelf(&log, alloc);
     let gate = Relief::new(alloc, log, shared, &shelf);
-    serve_clients(rt, alloc, shared, &gate, &shelf, clients);
+    serve_clients(rt, alloc, shared, gate, &shelf, clients);
 }
 
 /// Starts so many workers. They end when no more connections can come.
