@@ -1,7 +1,6 @@
 -- What happened on a wire that keeps it, and that it was a talk; and the same of a launcher and its children.
-use Rattle.std.specs.Prelude.{◌≡◌, ◌⊎◌, List, [], ◌++◌}
+use Rattle.std.specs.Prelude.{◌≡◌, ◌⊎◌, ℕ, List, [], ◌++◌}
 use Rattle.rk_conf.specs.declared.line.Line.{Line}
-use Rattle.rk_names.specs.declared.numbers.SessionId.{SessionId}
 use Rattle.rk_macro.specs.declared.subject.Op.TheVariants.{Negate}
 use Rattle.rk_macro.specs.declared.subject.Subject.{Subject}
 use Rattle.rk_devices.specs.declared.driven.Driven.{Driven}
@@ -13,7 +12,8 @@ use Rattle.rk_session.specs.declared.serving.Served.{Served}
 use Rattle.rk_session.specs.declared.serving.Served.TheVariants.{NotOpened}
 use Rattle.rk_session.specs.Places.{Standing}
 use Rattle.rk_session.specs.Talk.{Ends}
-use Rattle.rk_session.specs.Wires.{Happened, Heard, HasNoted, Said}
+use Rattle.rk_session.specs.Scenes.{Means, Scene}
+use Rattle.rk_session.specs.Wires.{Happened, Heard, HasNoted, NotSent, Said, Sent}
 use Rattle.rk_live_tests.specs.declared.kept.Kept.{Kept}
 use Rattle.rk_live_tests.specs.declared.kept.Kept.TheVariants as kept
 use Rattle.rk_live_tests.specs.declared.kept.Passed.{Passed}
@@ -25,11 +25,15 @@ abbrev pub happened : Kept → Happened
 happened (kept.Came bytes) = Heard bytes.items
 happened (kept.Noted receipt) = HasNoted receipt
 happened (kept.Went bytes) = Said bytes.items
+happened (kept.Sent had) = Sent had
+happened kept.NotSent = NotSent
 
--- all that happened on a wire is the talk of a session that began with some seat and ended so; or its client was not opened, and nothing happened
-abbrev pub IsTalk : SessionId → Served → List Happened → Type 0
-IsTalk session served story = ((first : SeatShown) × (last : Standing) × Ends session served (record { story = []; seat = first }) story last)
-    ⊎ ((served ≡ NotOpened) × (story ≡ []))
+-- all that happened on a wire is the talk of a session that began with some seat and these means, and ended so, with those means; or its client was not opened,
+-- and nothing happened
+abbrev pub IsTalk : Scene → Served → Means → Means → List Happened → Type 0
+IsTalk scene served old new story = ((first : SeatShown) × (last : Standing)
+    × Ends scene served (record { story = []; seat = first; means = old }) story last × (new ≡ last.means))
+    ⊎ ((served ≡ NotOpened) × (story ≡ []) × (new ≡ old))
 
 -- what was kept of a child, as what passed
 abbrev pub passed : Passed → shown.Passed
@@ -47,5 +51,5 @@ AreTried conf subject driven all = Tries conf subject 0 driven all
     × Tries conf (record subject { op = Negate }) 0 second two × (driven ≡ later_of first second) × (all ≡ one ++ two))
 
 -- all that passed with the child of a launch that came back last, if one ran
-abbrev pub HasPassedWith : List Line → TokenShown → Driven → SeatShown → SeatShown → List shown.Passed → Type 0
-HasPassedWith conf launch driven old new story = HasRun driven → Passes conf launch driven old new story ⊎ Passes conf (negated launch) driven old new story
+abbrev pub HasPassedWith : (ℕ → Type 0) → List Line → TokenShown → Driven → SeatShown → SeatShown → List shown.Passed → Type 0
+HasPassedWith tells conf launch driven old new story = HasRun driven → Passes tells conf launch driven old new story ⊎ Passes tells conf (negated launch) driven old new story

@@ -11,6 +11,10 @@ pub enum Kept {
     Noted(Receipt),
     /// These bytes were written.
     Went(Vec<u8>),
+    /// All that was written was sent; whether anything was, since the sending before.
+    Sent(bool),
+    /// A sending failed.
+    NotSent,
 }
 
 /// What has passed with a child.

@@ -1,5 +1,5 @@
 -- What a launcher that tells has told.
-use Rattle.std.proofs.Common.{◌≡◌, Bool, true, false, List, [], ◌++◌, inl, inr, sym, ap, subst, ◌∙◌}
+use Rattle.std.proofs.Common.{◌≡◌, ℕ, Bool, true, false, List, [], ◌++◌, inl, inr, sym, ap, subst, ◌∙◌}
 use Rattle.std.specs.Prelude.{Option, Some, None}
 use Rattle.rk_conf.specs.declared.line.Line.{Line}
 use Rattle.rk_macro.specs.declared.subject.Op.TheVariants.{Negate}
@@ -52,9 +52,9 @@ story_told story told true o is kept = told_same o story told is kept
 story_told story told false o is kept = absurd (subst is_there (sym kept ∙ is) tt)
 
 -- what passed with the child that came back last
-pub all_passed : (conf : List Line) (t : TokenShown) (driven : Driven) (s0 s1 : SeatShown) (l : LauncherShown) (told : List Passed) → l.story ≡ Some told
-    → EitherPassed conf t driven s0 s1 l → HasPassedWith conf t driven s0 s1 told
-all_passed conf t driven s0 s1 l told kept (inl one) run =
-    let p = one run in inl (subst (Passes conf t driven s0 s1) (story_told p.0 told p.1 l.story p.3 kept) p.2)
-all_passed conf t driven s0 s1 l told kept (inr two) run =
-    let p = two run in inr (subst (Passes conf (negated t) driven s0 s1) (story_told p.0 told p.1 l.story p.3 kept) p.2)
+pub all_passed : (tells : ℕ → Type 0) (conf : List Line) (t : TokenShown) (driven : Driven) (s0 s1 : SeatShown) (l : LauncherShown) (told : List Passed) → l.story ≡ Some told
+    → EitherPassed tells conf t driven s0 s1 l → HasPassedWith tells conf t driven s0 s1 told
+all_passed tells conf t driven s0 s1 l told kept (inl one) run =
+    let p = one run in inl (subst (Passes tells conf t driven s0 s1) (story_told p.0 told p.1 l.story p.3 kept) p.2)
+all_passed tells conf t driven s0 s1 l told kept (inr two) run =
+    let p = two run in inr (subst (Passes tells conf (negated t) driven s0 s1) (story_told p.0 told p.1 l.story p.3 kept) p.2)

@@ -86,11 +86,12 @@ impl Handling {
         let conf = Conf::read(alloc, self.started.conf).expect(rt, "lines");
         let fake = Fake::new(alloc, self.started.programs, self.fuse).expect(rt, "memory");
         let launch = requests(rt, halls, &mut seat);
-        let (gate, shelf) = (Open::new(), Bin::new());
-        let stage = stage_of(rt, alloc, halls, &conf, &gate, &shelf);
+        let shelf = Bin::new();
+        let stage = stage_of(rt, alloc, halls, &conf, &shelf);
         let caller = Caller {
             seat,
             clock: Ticking::new(),
+            gate: Open::new(),
         };
         let mut crew: Crew<Around<N, R, Open>> = Crew {
             caller,
@@ -100,7 +101,11 @@ impl Handling {
         };
         let driven = drive(&stage, &mut crew, launch);
         let Crew {
-            caller: Caller { mut seat, clock },
+            caller: Caller {
+                mut seat,
+                clock,
+                gate,
+            },
             launcher: fake,
             piece: _,
             reply: _,

@@ -43,7 +43,6 @@ fn told_stage<'a, N: Names, R: Wait + Abort + Copy>(
     alloc: Global,
     halls: &'a Halls<N>,
     conf: &'a Conf,
-    gate: &'a Open,
     shelf: &'a Bin,
 ) -> Stage<'a, Told<N, R>> {
     Stage {
@@ -51,7 +50,6 @@ fn told_stage<'a, N: Names, R: Wait + Abort + Copy>(
         alloc,
         halls,
         conf,
-        gate,
         shelf,
     }
 }
@@ -67,7 +65,7 @@ fn drive_told<N: Names, R: Wait + Abort + Copy>(
     requires out { crew.old.launcher.out ≡ 0 }
     requires first { crew.old.launcher.tried.items ≡ [] }
     ensures tried { AreTried stage.now.conf.now launch.subject result (map tried crew.new.launcher.tried.items) }
-    ensures passed { HasPassedWith stage.now.conf.now launch result crew.old.caller.seat crew.new.caller.seat (map passed crew.new.launcher.story.items) }
+    ensures passed { HasPassedWith (λ moment. 100 ≤ moment) stage.now.conf.now launch result crew.old.caller.seat crew.new.caller.seat (map passed crew.new.launcher.story.items) }
 {
     drive(stage, crew, launch)
 }
@@ -170,11 +168,12 @@ fn is_driven<'a, N: Names, R: Wait + Abort + Copy>(
     let mut seat = halls.seat(rt).expect(rt, "a seat");
     drop(greets(rt, alloc, halls, &mut seat));
     let launch = requests(rt, halls, &mut seat);
-    let (gate, shelf) = (Open::new(), Bin::new());
-    let stage = told_stage(rt, alloc, halls, &conf, &gate, &shelf);
+    let shelf = Bin::new();
+    let stage = told_stage(rt, alloc, halls, &conf, &shelf);
     let caller = Caller {
         seat,
         clock: Ticking::new(),
+        gate: Open::new(),
     };
     let launcher = Telling::new(*rt, alloc, speeches).expect(rt, "memory");
     let mut crew: Crew<Told<N, R>> = Crew {
@@ -185,12 +184,13 @@ fn is_driven<'a, N: Names, R: Wait + Abort + Copy>(
     };
     let driven = drive_told(&stage, &mut crew, launch);
     let Crew {
-        caller: Caller { seat, clock },
+        caller: Caller { seat, clock, gate },
         launcher,
         piece: _,
         reply: _,
     } = crew;
     drop(clock);
+    drop(gate);
     (seat, driven, launcher)
 }
 

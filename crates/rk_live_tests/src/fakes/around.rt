@@ -1,6 +1,8 @@
 //! What is around a session or a handler that has all of it to itself: a clock that goes on whenever it is read, a gate that holds nobody, and a shelf that
 //! keeps nothing; both count.
 
+ghost use Rattle.std.specs.Prelude.{◌≡◌, ◌≤◌, IfSome, None};
+
 use crate::asks::NOW;
 use crate::fakes::launcher::Fake;
 use rk_child::{Platform, Stage};
@@ -31,6 +33,8 @@ impl Ticking {
 }
 
 impl Clock for Ticking {
+    ghost tells = { λ moment. 100 ≤ moment };
+
     fn now(&mut self) -> Moment {
         self.reads = self.reads.saturating_add(1);
         Moment(NOW.0.saturating_add(self.reads))
@@ -41,37 +45,37 @@ impl Clock for Ticking {
 #[derive(Drop)]
 pub struct Open {
     /// How many commands it learned of, also of ones that were not started.
-    commands: AtomicU64,
+    commands: u64,
 }
 
 impl Open {
     /// It has learned nothing.
     pub fn new() -> Open {
-        Open {
-            commands: AtomicU64::new(0),
-        }
+        Open { commands: 0 }
     }
 
     /// Of how many commands it has learned what became of them.
     pub fn commands(&self) -> u64 {
-        self.commands.load(SeqCst)
+        self.commands
     }
 }
 
 impl Gate for Open {
-    fn started<R: Wait>(&self, rt: &R, key: Serial, subject: &Subject) {
+    ghost story = { λ gate. None };
+
+    fn started<R: Wait>(&mut self, rt: &R, key: Serial, subject: &Subject) {
         let _ = rt;
         let _ = key;
         let _ = subject;
     }
 
-    fn driven<R: Wait>(&self, rt: &R, report: Report<'_>) {
+    fn driven<R: Wait>(&mut self, rt: &R, report: Report<'_>) {
         let _ = rt;
         let _ = report;
-        self.commands.fetch_add(1, SeqCst);
+        self.commands = self.commands.saturating_add(1);
     }
 
-    fn answered<R: Wait>(&self, rt: &R, session: SessionId) {
+    fn answered<R: Wait>(&mut self, rt: &R, session: SessionId) {
         let _ = rt;
         let _ = session;
     }
@@ -98,11 +102,13 @@ impl Bin {
     }
 }
 
-impl Shelf for Bin {
-    fn put<N: Names, R: Wait>(&self, rt: &R, volume: &Volume<N>) {
+impl<N: Names> Shelf<N> for Bin {
+    fn put<R: Wait>(&self, rt: &R, volume: Volume<N>) -> Option<Volume<N>>
+        ensures { IfSome result (λ kept. kept ≡ volume) }
+    {
         let _ = rt;
-        let _ = volume;
         self.put.fetch_add(1, SeqCst);
+        Some(volume)
     }
 }
 
@@ -129,7 +135,6 @@ pub fn stage_of<'a, N: Names, R: Wait, G: Gate>(
     alloc: Global,
     halls: &'a Halls<N>,
     conf: &'a Conf,
-    gate: &'a G,
     shelf: &'a Bin,
 ) -> Stage<'a, Around<N, R, G>> {
     Stage {
@@ -137,7 +142,6 @@ pub fn stage_of<'a, N: Names, R: Wait, G: Gate>(
         alloc,
         halls,
         conf,
-        gate,
         shelf,
     }
 }

@@ -1,4 +1,5 @@
 //! Threads act in one order: each waits until its turn has come.
+ghost use Rattle.std.specs.Prelude.{None};
 
 use rk_devices::{Gate, Report};
 use rk_macro::Subject;
@@ -61,7 +62,9 @@ pub struct Held<'a> {
 }
 
 impl<'a> Gate for Held<'a> {
-    fn started<R: Wait>(&self, rt: &R, key: Serial, subject: &Subject) {
+    ghost story = { λ gate. None };
+
+    fn started<R: Wait>(&mut self, rt: &R, key: Serial, subject: &Subject) {
         let _ = rt;
         let _ = key;
         let _ = subject;
@@ -69,12 +72,12 @@ impl<'a> Gate for Held<'a> {
         self.turns.wait(self.until);
     }
 
-    fn driven<R: Wait>(&self, rt: &R, report: Report<'_>) {
+    fn driven<R: Wait>(&mut self, rt: &R, report: Report<'_>) {
         let _ = rt;
         let _ = report;
     }
 
-    fn answered<R: Wait>(&self, rt: &R, session: SessionId) {
+    fn answered<R: Wait>(&mut self, rt: &R, session: SessionId) {
         let _ = rt;
         let _ = session;
     }

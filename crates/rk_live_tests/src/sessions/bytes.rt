@@ -24,6 +24,14 @@ pub const JOIN_AND_REQUEST: &[u8] = b"\0\0\0\x0e\x01\0\0\x03\xe8\0\0\x03\xe8\0\0
 pub const HELLO_AND_READ: &[u8] =
     b"\0\0\0\x0e\x01\0\0\x03\xe8\0\0\x03\xe8\0\0\0\0\0\0\0\0\x05\x07\0\0\0\x0c";
 
+/// HELLO of uid and gid 1000, and READ 12 four times.
+pub const HELLO_AND_READS: &[u8] = b"\0\0\0\x0e\x01\0\0\x03\xe8\0\0\x03\xe8\0\0\0\0\0\
+    \0\0\0\x05\x07\0\0\0\x0c\0\0\0\x05\x07\0\0\0\x0c\0\0\0\x05\x07\0\0\0\x0c\0\0\0\x05\x07\0\0\0\x0c";
+
+/// READ 12 twice, REQUEST user a, with the callout x, and READ 12.
+pub const READS_AND_REQUEST: &[u8] = b"\0\0\0\x05\x07\0\0\0\x0c\0\0\0\x05\x07\0\0\0\x0c\
+    \0\0\0\x12\x02\0\x04user\0\x01a\x01\0\x01x\0\0\0\0\0\0\0\x05\x07\0\0\0\x0c";
+
 /// HELLO of uid and gid 1000, and a length that no frame has.
 pub const HELLO_AND_NO_FRAME: &[u8] = b"\0\0\0\x0e\x01\0\0\x03\xe8\0\0\x03\xe8\0\0\0\0\0\0\0\0\0";
 
@@ -52,6 +60,9 @@ pub const OTHER_RINGS: &[u8] = b"\0\0\0\x11\x02\0\0\0\0\0\0\0\0\0\0\0\x01\0\0\0\
 
 /// The bytes "one".
 pub const ONE: &[u8] = b"\0\0\0\x06\x01\0\x03one";
+
+/// The bytes "hi".
+pub const HI: &[u8] = b"\0\0\0\x05\x01\0\x02hi";
 
 /// The number 9.
 pub const NINE: &[u8] = b"\0\0\0\x05\0\0\0\0\x09";

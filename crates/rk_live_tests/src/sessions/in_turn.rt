@@ -35,7 +35,7 @@ impl<'a> Wire for InTurn<'a> {
         self.line.write(bytes)
     }
 
-    fn send(&mut self) -> Result<(), DeviceFault> {
+    fn send(&mut self) -> Result<bool, DeviceFault> {
         let is_kept = self.line.kept;
         let sent = self.line.send();
         if is_kept {

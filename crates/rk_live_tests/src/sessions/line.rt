@@ -127,19 +127,19 @@ impl Wire for Line {
         Ok(())
     }
 
-    fn send(&mut self) -> Result<(), DeviceFault> {
+    fn send(&mut self) -> Result<bool, DeviceFault> {
         if self.is_cut {
             return Err(self.fail());
         }
         if !self.kept {
-            return Ok(());
+            return Ok(false);
         }
         self.sendings = self.sendings.saturating_add(1);
         if self.cut == Some(Cut::Send(self.sendings)) || self.story.push(b's').is_err() {
             return Err(self.fail());
         }
         self.kept = false;
-        Ok(())
+        Ok(true)
     }
 
     fn note(&mut self, receipt: &ReceiptView<'_>) {

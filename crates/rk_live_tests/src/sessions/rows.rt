@@ -179,12 +179,13 @@ const MALFORMED: Session = Session {
 
 const OTHERS: &[Session] = &[
     IN_ONE_PIECE,
-    // that reply can't be sent, and the key is made all the same
+    // that reply can't be sent: the key is made all the same, and its outcome is not collected
     Session {
         cut: Some(Cut::Send(1)),
         served: Served::WriteFault,
         replies: &[RINGS],
-        story: Some(b"rnwn"),
+        story: Some(b"rnw"),
+        steps: 8,
         ..IN_ONE_PIECE
     },
     MALFORMED,

@@ -42,11 +42,11 @@ pub struct Came {
 }
 
 /// Serves a session over this wire to its end. The seat comes back.
-pub fn serves<'a, N: Names, R: Wait + Abort, G: Gate, W: Wire>(
+pub fn serves<'a, N: Names, R: Wait + Abort, G: Gate + Drop, W: Wire>(
     rt: &'a R,
     alloc: Global,
     halls: &'a Halls<N>,
-    gate: &'a G,
+    gate: G,
     own: Own<N>,
     wire: &mut W,
 ) -> (Seat<N>, Came) {
@@ -60,10 +60,11 @@ pub fn serves<'a, N: Names, R: Wait + Abort, G: Gate, W: Wire>(
     let conf = Conf::read(alloc, started.conf).expect(rt, "lines");
     let frames = Frames::new(alloc).expect(rt, "memory");
     let shelf = Bin::new();
-    let stage = stage_of(rt, alloc, halls, &conf, gate, &shelf);
+    let stage = stage_of(rt, alloc, halls, &conf, &shelf);
     let caller = Caller {
         seat,
         clock: Ticking::new(),
+        gate,
     };
     let mut crew: Crew<Around<N, R, G>> = Crew {
         caller,
@@ -73,12 +74,13 @@ pub fn serves<'a, N: Names, R: Wait + Abort, G: Gate, W: Wire>(
     };
     let served = serve(&stage, &mut crew, client, frames, wire);
     let Crew {
-        caller: Caller { seat, clock },
+        caller: Caller { seat, clock, gate },
         launcher: fake,
         piece: _,
         reply: _,
     } = crew;
     drop(clock);
+    drop(gate);
     let volumes = shelf.count();
     (
         seat,
@@ -178,8 +180,7 @@ impl Session {
             started: self.started,
             fuse: self.fuse,
         };
-        let gate = Open::new();
-        serves(rt, alloc, halls, &gate, own, line)
+        serves(rt, alloc, halls, Open::new(), own, line)
     }
 
     /// The receipts that stand in the record in the end: none of a record whose first volumes are gone.

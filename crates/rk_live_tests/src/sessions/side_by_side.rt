@@ -67,7 +67,7 @@ impl Side {
             started: PLAIN,
             fuse: None,
         };
-        let (seat, came) = serves(rt, alloc, halls, &gate, own, &mut wire);
+        let (seat, came) = serves(rt, alloc, halls, gate, own, &mut wire);
         let InTurn { line, .. } = wire;
         let replies = joined(alloc, self.replies, 1).expect(rt, "memory");
         let commands = joined(alloc, self.commands, 1).expect(rt, "memory");
@@ -201,6 +201,24 @@ const PAIRS: &[Pair] = &[
             commands: &[],
         },
         steps: 16,
+    },
+    // each requests a key in the hall of its uid: one handler is held until the other one was started, too, and each is started once. The second one asks
+    // for a key that is not its own
+    Pair {
+        until: 4,
+        first: Side {
+            at: &[],
+            pieces: &[HELLO, REQUEST],
+            replies: &[RINGS, TWELVE],
+            commands: &[b"/bin/h 12 "],
+        },
+        second: Side {
+            at: &[],
+            pieces: &[OTHER_HELLO, REQUEST],
+            replies: &[OTHER_RINGS, NO_KEY],
+            commands: &[b"/bin/h 9 "],
+        },
+        steps: 20,
     },
 ];
 

@@ -87,7 +87,7 @@ impl<N: Names> Caller<N> {
                 self.rolls(rt, halls);
             }
         }
-        assert!(rt; done > count / 4);
+        assert!(rt; done >= count / 4);
     }
 
     /// The client goes.

@@ -19,8 +19,10 @@ use std::time::Clock;
 pub struct SideBySide {
     /// How many threads there are.
     threads: usize,
-    /// How many requests each client makes.
+    /// How many requests each client makes, after it has come and said who it is, and before it goes.
     asks: u32,
+    /// How many steps there are to be, if that is known.
+    steps: Option<u64>,
 }
 
 impl SideBySide {
@@ -40,6 +42,7 @@ impl SideBySide {
         let steps = receipts.len() as u64;
         let joined = rejoin_all(rt, alloc, &halls, &mut volumes);
         let settled = settle(halls, &volumes, seats, &receipts);
+        same(rt, joined, self.steps.unwrap_or(steps));
         same(rt, joined, steps);
         same(rt, settled, Ok(all(steps)));
     }
@@ -140,7 +143,22 @@ fn threads_side_by_side_settle(rt: HostRuntime) {
         in_new_halls(
             &rt,
             rt.alloc(),
-            Scene::SideBySide(SideBySide { threads, asks }),
+            Scene::SideBySide(SideBySide {
+                threads,
+                asks,
+                steps: None,
+            }),
         );
     }
+}
+
+/// Each of two threads has a seat of its own and makes three calls: its client comes, says who it is, and goes. The six receipts settle.
+#[test]
+fn six_receipts_of_two_threads_settle(rt: HostRuntime) {
+    let two = SideBySide {
+        threads: 2,
+        asks: 0,
+        steps: Some(6),
+    };
+    in_new_halls(&rt, rt.alloc(), Scene::SideBySide(two));
 }

@@ -1,4 +1,4 @@
-use Rattle.std.proofs.Common.{map, refl, ap}
+use Rattle.std.proofs.Common.{map, refl, ap, ◌≤◌}
 use Rattle.std.specs.Prelude.{Some}
 use Rattle.rk_live_tests.specs.Telling.{passed, tried}
 use Rattle.rk_live_tests.proofs.children.Stories.{all_passed, all_tried}
@@ -16,6 +16,6 @@ returns-clause-tried g c =
 pub returns-clause-passed : goal.returns-clause-passed
 returns-clause-passed g c =
     let k = c.drive.new.crew.launcher in
-    all_passed c.args.stage.now.conf.now c.args.launch c.drive.result c.args.crew.now.caller.seat c.drive.new.crew.caller.seat
+    all_passed (λ moment. 100 ≤ moment) c.args.stage.now.conf.now c.args.launch c.drive.result c.args.crew.now.caller.seat c.drive.new.crew.caller.seat
     (record { count = k.failed; longest = k.longest; out = k.out; deepest = k.deepest; reads = k.reads; at_end = k.at_end; last = k.last; story = Some (map passed k.story.items); hasty = k.hasty; tried = Some (map tried k.tried.items) })
     (map passed k.story.items) refl c.drive.ensures.passed
