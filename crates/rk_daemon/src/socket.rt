@@ -176,6 +176,7 @@ impl<'a, R: Wait + Clock> Socket<'a, R> {
     /// Writes what is kept to the line, and keeps it no longer.
     fn empty(&mut self) -> Result<(), DeviceFault>
         ensures ok { OnOk result ((self.new.failed ≡ self.old.failed) × (self.new.reads ≡ self.old.reads) × (self.new.cut ≡ self.old.cut) × (self.new.owes ≡ self.old.owes)) }
+        ensures empty { OnOk result (vec_len self.new.kept ≡ 0) }
         ensures err { OnErr result ((self.new.reads ≡ self.old.reads) × (self.new.cut ≡ true) × (self.new.owes ≡ false)) }
         ensures rose { OnErr result (Rose self.old.failed self.new.failed) }
     {
