@@ -10,7 +10,7 @@ The crates below are not proved here. In FOLDER, if that is named, they stand as
 the gate does so (check.py). Elsewhere what `rt check` has kept in crates/NAME/out is brought up to date first, and makes the checks short. Edits count as
 refused if an earlier run on this machine refused the same ones, or edits.lock lists them; of those that it lists for other crates below a lot is tried
 (verdicts.py). With --drawn also what the lock lists is tried. With --lock the lock isn't believed: it gets the line of each of these crates whose edits are
-all refused, while a control without them has no open goal. The same holds if ANEW is in the environment.
+all refused, while a control without them has no open goal, and says how many are refused by the search and how many by an answer alone (kinds.py). The same holds if ANEW is in the environment.
 """
 import argparse
 import concurrent.futures
@@ -23,6 +23,7 @@ import tempfile
 
 import crates
 from edits import BadEdit, Edit
+from kinds import Judged
 from trial import Trial, edits_of, ran
 from verdicts import DRAWN, LOT, Verdicts
 
@@ -83,7 +84,7 @@ def main(words):
             print(f"{trial.name}: {count} edits in {trial.checks} checks, {trial.seconds:.0f} processor seconds", flush=True)
             passed, failed = passed + len(trial.refused), failed + len(trial.faults)
             if not trial.faults:
-                verdicts.keep(trial.name, writes, of_lot=trial.name in lots)
+                verdicts.keep(trial.name, writes, of_lot=trial.name in lots, **tell_kinds(trial))
         old = [it for it in asked if it not in verdicts.locked() and it not in lots]
     if old:
         print(f"edits.lock has no line, or an old one, of {' '.join(old)}: `make edits` writes it")
@@ -123,8 +124,20 @@ def lots_of(verdicts, taken):
 
 
 def trial_of(name, built, room, lot, writes):
-    """The trial of a crate's edits, or of a lot of them."""
-    return Trial(name, built, room, writes) if lot is None else OfLot(name, built, room, lot)
+    """The trial of a crate's edits, or of a lot of them. For a line of the lock it tells by what each is refused."""
+    if lot is not None:
+        return OfLot(name, built, room, lot)
+    return (Judged if writes else Trial)(name, built, room, writes)
+
+
+def tell_kinds(trial):
+    """Says which edits only an answer refuses, and what is open without it; how many there are of which kind, as words of edits.lock."""
+    if not isinstance(trial, Judged):
+        return {}
+    for name, goals in sorted(trial.open.items()):
+        if goals:
+            print(f"{trial.name}/{name}: an answer alone refuses it; without that these goals are open, to be looked at once: {' '.join(goals)}")
+    return trial.counts()
 
 
 def names_of(crate):
