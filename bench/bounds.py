@@ -2,7 +2,8 @@
 
 Each bound is what the proved program took, and 5% more, rounded up to ten. A change that makes an ask cheaper lowers its bound. One that makes it dearer
 says why, where it raises the bound. All were raised by 70 when the daemon began to look at how long a client keeps its worker waiting (--idle): each read and
-each sending goes through that. Builds without proofs take 52 to 72 more for it; the proved program was not measured yet.
+each sending goes through that. Builds without proofs, compared in five of these rows, take 52 to 72 more for it. The other two rows and
+the proved program were not measured yet.
 """
 
 MOST = {
